@@ -1,0 +1,5 @@
+-- The measures that the theorems speak of.
+pub mod Weight
+pub mod PartsBound
+pub mod Names
+pub mod Tokens

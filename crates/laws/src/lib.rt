@@ -1,0 +1,1 @@
+// The longer theorems about the definitions of `paper`, in proofs/. No code.
