@@ -3,3 +3,5 @@ pub mod Weight
 pub mod PartsBound
 pub mod Names
 pub mod Tokens
+pub mod Placed
+pub mod Nodes

@@ -1,0 +1,101 @@
+//! The lines that the commands print; each ends in byte 10.
+
+use crate::limits::Edition;
+use crate::live::Live;
+use crate::refusal::Refusal;
+use crate::rules::Order;
+use crate::table::{compile, table_start, table_step};
+
+/// "print `ok STATES BYTES` and a line of lower-case hex, or `refused NUMBER at PLACE`".
+pub fn compile_answer(bytes: &[u8], edition: Edition) -> Vec<u8> {
+    match compile(bytes, edition) {
+        Ok(compiled) => {
+            let first = format!("ok {} {}\n", compiled.states, compiled.table.len());
+            (first + &hex(&compiled.table) + "\n").into_bytes()
+        }
+        Err(refusal) => refusal_line(refusal),
+    }
+}
+
+/// Two lower-case digits for each byte.
+fn hex(bytes: &[u8]) -> String {
+    bytes.iter().map(|byte| format!("{byte:02x}")).collect()
+}
+
+/// The line of a refusal.
+fn refusal_line(refusal: Refusal) -> Vec<u8> {
+    format!("{refusal}\n").into_bytes()
+}
+
+/// A live run: the modules that run at the start, then one line for each letter.
+pub fn trace_answer(bytes: &[u8], letters: &[u8]) -> Vec<u8> {
+    let mut live = match Live::start(bytes) {
+        Ok(live) => live,
+        Err(refusal) => return refusal_line(refusal),
+    };
+    let mut out = b"start".to_vec();
+    for module in live.running() {
+        out.extend([b' ', module]);
+    }
+    out.push(b'\n');
+    for letter in letters {
+        out.extend(trace_line(&mut live, *letter));
+    }
+    out
+}
+
+/// The line of one letter: its orders, or the number of its refusal.
+fn trace_line(live: &mut Live, letter: u8) -> Vec<u8> {
+    let mut out = vec![letter];
+    match live.step(letter) {
+        Ok(orders) => {
+            for (order, module) in orders.iter().zip(&live.config().modules) {
+                out.extend(order_mark(*order, *module));
+            }
+        }
+        Err(refusal) => out.extend(format!(" refused {}", refusal.number).into_bytes()),
+    }
+    out.push(b'\n');
+    out
+}
+
+/// A space, `+` start, `~` resume or `-` stop, and the module; nothing if it has no order.
+fn order_mark(order: Order, module: u8) -> Vec<u8> {
+    match order {
+        Order::None => Vec::new(),
+        Order::Start => vec![b' ', b'+', module],
+        Order::Resume => vec![b' ', b'~', module],
+        Order::Stop => vec![b' ', b'-', module],
+    }
+}
+
+/// Table start: state 0 and the modules that run.
+pub fn table_start_answer(bytes: &[u8]) -> Vec<u8> {
+    match table_start(bytes) {
+        Ok(running) => {
+            let mut out = b"state 0".to_vec();
+            for module in running {
+                out.extend([b' ', module]);
+            }
+            out.push(b'\n');
+            out
+        }
+        Err(refusal) => refusal_line(refusal),
+    }
+}
+
+/// Table step: the next state, and one order digit for each module.
+pub fn table_step_answer(bytes: &[u8], state: usize, letter: u8) -> Vec<u8> {
+    match table_step(bytes, state, letter) {
+        Ok(step) => {
+            let mut out = format!("state {}", step.next).into_bytes();
+            if !step.orders.is_empty() {
+                out.push(b' ');
+            }
+            out.extend(step.orders.iter().map(|order| b'0' + *order as u8));
+            out.push(b'\n');
+            out
+        }
+        Err(refusal) => refusal_line(refusal),
+    }
+}
