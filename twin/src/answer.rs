@@ -1,9 +1,10 @@
 //! The lines that the commands print; each ends in byte 10.
 
+use crate::config::read_config;
 use crate::limits::Edition;
 use crate::live::Live;
 use crate::refusal::Refusal;
-use crate::rules::Order;
+use crate::rules::{postorder, Order};
 use crate::table::{compile, table_start, table_step};
 
 /// "print `ok STATES BYTES` and a line of lower-case hex, or `refused NUMBER at PLACE`".
@@ -15,6 +16,27 @@ pub fn compile_answer(bytes: &[u8], edition: Edition) -> Vec<u8> {
         }
         Err(refusal) => refusal_line(refusal),
     }
+}
+
+/// What the reading of a file gives: `read`, the modules, the events, the fugitive ones among
+/// them (`-` for none) and the program's term in postorder; or its refusal.
+pub fn reading_answer(bytes: &[u8], edition: Edition) -> Vec<u8> {
+    let config = match read_config(bytes, edition) {
+        Ok(config) => config,
+        Err(refusal) => return refusal_line(refusal),
+    };
+    let events = config.events.iter().map(|e| e.letter).collect();
+    let fugitive = config.events.iter().filter(|e| e.fugitive);
+    let fugitive = fugitive.map(|e| e.letter).collect();
+    let mut out = b"read".to_vec();
+    for letters in [config.modules, events, fugitive] {
+        out.push(b' ');
+        out.extend(if letters.is_empty() { vec![b'-'] } else { letters });
+    }
+    out.push(b' ');
+    postorder(&config.program, &mut out);
+    out.push(b'\n');
+    out
 }
 
 /// Two lower-case digits for each byte.

@@ -4,7 +4,9 @@
 use std::io::{self, BufRead, BufReader, Read, Write};
 use std::process::ExitCode;
 
-use twin::answer::{compile_answer, table_start_answer, table_step_answer, trace_answer};
+use twin::answer::{
+    compile_answer, reading_answer, table_start_answer, table_step_answer, trace_answer,
+};
 use twin::limits::Edition;
 
 const USAGE: &str = "usage, the file or table on standard input:
@@ -13,10 +15,15 @@ const USAGE: &str = "usage, the file or table on standard input:
   twin trace LETTERS                  live run of the file, letter by letter
   twin table-start                    start of a table
   twin table-step STATE LETTER-BYTE   one step of a table, two decimal numbers
-  twin batch                          records `EDITION LENGTH`, line end, LENGTH bytes";
+  twin batch                          records `EDITION LENGTH`, line end, LENGTH bytes
+  twin stream WHAT                    frames of two length bytes, high first, and as many bytes;
+                                      WHAT is basic, adaptive, reading-basic or reading-adaptive";
 
 /// The longest record line that can be right: an edition, a space, a number, a line end.
 const LONGEST_RECORD_LINE: u64 = 64;
+
+/// An answer to the bytes of a file.
+type Answerer = fn(&[u8]) -> Vec<u8>;
 
 /// What the arguments ask for.
 enum Command {
@@ -25,6 +32,7 @@ enum Command {
     TableStart,
     TableStep(usize, u8),
     Batch,
+    Stream(Answerer),
 }
 
 /// Status 0 for every answer, refusals too; 2 and a message if there is none.
@@ -59,6 +67,7 @@ fn command() -> Option<Command> {
             Some(Command::TableStep(decimal(state)?, letter))
         }
         ["batch"] => Some(Command::Batch),
+        ["stream", what] => answerer(what).map(Command::Stream),
         [name] => edition(name).map(Command::Compile),
         _ => None,
     }
@@ -69,6 +78,17 @@ fn edition(name: &str) -> Option<Edition> {
     match name {
         "basic" => Some(Edition::Basic),
         "adaptive" => Some(Edition::Adaptive),
+        _ => None,
+    }
+}
+
+/// What a stream's frames are answered with.
+fn answerer(what: &str) -> Option<Answerer> {
+    match what {
+        "basic" => Some(|file| compile_answer(file, Edition::Basic)),
+        "adaptive" => Some(|file| compile_answer(file, Edition::Adaptive)),
+        "reading-basic" => Some(|file| reading_answer(file, Edition::Basic)),
+        "reading-adaptive" => Some(|file| reading_answer(file, Edition::Adaptive)),
         _ => None,
     }
 }
@@ -86,12 +106,31 @@ fn decimal(text: &str) -> Option<usize> {
 fn run(command: Command) -> Result<(), String> {
     let answer = match command {
         Command::Batch => return batch(),
+        Command::Stream(answer) => stream(&standard_input()?, answer)?,
         Command::Compile(edition) => compile_answer(&standard_input()?, edition),
         Command::Trace(letters) => trace_answer(&standard_input()?, &letters),
         Command::TableStart => table_start_answer(&standard_input()?),
         Command::TableStep(state, letter) => table_step_answer(&standard_input()?, state, letter),
     };
     print(&answer)
+}
+
+/// The answers to all frames of the input, one after the other.
+fn stream(input: &[u8], answer: Answerer) -> Result<Vec<u8>, String> {
+    let mut out = Vec::new();
+    let mut rest = input;
+    while !rest.is_empty() {
+        let frame = next_frame(rest).ok_or("the last frame is cut short")?;
+        out.extend(answer(frame));
+        rest = &rest[2 + frame.len()..];
+    }
+    Ok(out)
+}
+
+/// The frame that the bytes begin with; `None` if they end before it does.
+fn next_frame(bytes: &[u8]) -> Option<&[u8]> {
+    let length = usize::from(*bytes.first()?) * 256 + usize::from(*bytes.get(1)?);
+    bytes.get(2..2 + length)
 }
 
 /// All bytes of standard input.

@@ -115,6 +115,47 @@ fn parts_of_interruption(interruption: &Interruption) -> usize {
     }
 }
 
+/// A term in postorder, one byte for each part: letters and marks as they are written, `;` for a
+/// sequence, `|` for `||`, and between interruptions `!` for `|` and `&` for `||`.
+pub fn postorder(term: &Term, out: &mut Vec<u8>) {
+    match term {
+        Term::Module(letter) => out.push(*letter),
+        Term::One => out.push(b'1'),
+        Term::Seq(x, y) | Term::Par(x, y) => {
+            postorder(x, out);
+            postorder(y, out);
+            out.push(if matches!(term, Term::Seq(..)) { b';' } else { b'|' });
+        }
+        Term::Star(x) => {
+            postorder(x, out);
+            out.push(b'*');
+        }
+        Term::Act(x, i) => {
+            postorder(x, out);
+            postorder_of_interruption(i, out);
+            out.push(b'/');
+        }
+    }
+}
+
+/// An interruption in postorder, written the same way.
+fn postorder_of_interruption(interruption: &Interruption, out: &mut Vec<u8>) {
+    match interruption {
+        Interruption::Plain(letter) => out.push(*letter),
+        Interruption::Treated(letter, treatment) => {
+            out.push(*letter);
+            postorder(treatment, out);
+            out.push(b':');
+        }
+        Interruption::Either(i, j) | Interruption::Both(i, j) => {
+            postorder_of_interruption(i, out);
+            postorder_of_interruption(j, out);
+            let either = matches!(interruption, Interruption::Either(..));
+            out.push(if either { b'!' } else { b'&' });
+        }
+    }
+}
+
 /// "A module runs itself; a sequence, a star and a `/` run their first part; `||` runs both
 /// sides."
 pub fn running(module: u8, term: &Term) -> bool {

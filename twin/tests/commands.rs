@@ -215,3 +215,29 @@ fn a_standard_input_that_cannot_be_read_gets_a_message() {
         assert_eq!(output.status.code(), Some(2));
     }
 }
+
+/// One frame of a stream.
+fn frame(file: &[u8]) -> Vec<u8> {
+    let mut out = vec![(file.len() / 256) as u8, (file.len() % 256) as u8];
+    out.extend(file);
+    out
+}
+
+#[test]
+fn stream() {
+    let braces = b"fugitive GF\nstandard E\nprogram [a||b*]c/{E:d/F||{F|G}}.\n";
+    let frames = [frame(FILE), frame(b""), frame(braces)].concat();
+    prints(
+        &["stream", "reading-adaptive"],
+        &frames,
+        "read a E - aE/\nrefused 7 at 0\nread abcd EFG FG ab*|cEdF/:FG!&/;\n",
+    );
+    let wanted = "read a E - aE/\nrefused 7 at 0\nrefused 15 at 0\n";
+    prints(&["stream", "reading-basic"], &frames, wanted);
+    let wanted = "ok 2 11\n1110010118048070008040\nrefused 7 at 0\n";
+    prints(&["stream", "basic"], &frames[..FILE.len() + 4], wanted);
+    prints(&["stream", "adaptive"], b"", "");
+    complains(&["stream", "basic"], &frames[..5], "cut short");
+    complains(&["stream", "trace"], &frames, "usage");
+    complains(&["stream"], &frames, "usage");
+}

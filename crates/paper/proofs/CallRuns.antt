@@ -15,12 +15,13 @@ use Rattle.paper.specs.Reaction.{Program, State, startOf}
 use Rattle.paper.specs.Refusals.{basic, adaptive, reading}
 use Rattle.paper.specs.IsTable.{isTable}
 use Rattle.paper.specs.Calls.{Compiled, compiled, Stepped, notStepped, stepsTo, tableStart, tableStep, Coding, notLived, livesOn, liveStart, liveStep}
+use Rattle.paper.specs.Programs.{decimal, answerText}
 use Rattle.paper.proofs.Opened.{opened}
-use Rattle.paper.proofs.Run.{unhex}
+use Rattle.paper.proofs.Run.{unhex, compiledFor}
 
-abbrev hex : String → List ℕ
+abbrev hexed : String → List ℕ
 unfolding unhex bytes
-hex s = unhex (bytes s)
+hexed s = unhex (bytes s)
 
 -- "module letter, event letter, each mark, line end, or none": the borders of each range, and each mark
 kinds-hold : map kindOf (bytes "`az{@AZ[*./1:[]{|}\n \r0") ≡ noKind ∷ moduleLetter ∷ moduleLetter ∷ braceKind ∷ noKind ∷ eventLetter ∷ eventLetter ∷ openKind ∷ starKind ∷ dotKind ∷ slashKind ∷ oneKind ∷ colonKind ∷ openKind ∷ closeKind ∷ braceKind ∷ barKind ∷ unbraceKind ∷ endKind ∷ noKind ∷ noKind ∷ noKind ∷ []
@@ -63,21 +64,21 @@ notTables =
     ∷ "1000"
     ∷ []
 
-tables-hold : map (λ s. isTable (hex s)) tables ≡ true ∷ true ∷ true ∷ true ∷ []
-unfolding opened unhex hex tables
+tables-hold : map (λ s. isTable (hexed s)) tables ≡ true ∷ true ∷ true ∷ true ∷ []
+unfolding opened unhex hexed tables
 tables-hold = refl
 
-not-tables-hold : map (λ s. isTable (hex s)) notTables ≡ map (λ s. false) notTables
-unfolding opened unhex hex notTables
+not-tables-hold : map (λ s. isTable (hexed s)) notTables ≡ map (λ s. false) notTables
+unfolding opened unhex hexed notTables
 not-tables-hold = refl
 
 table : List ℕ
-unfolding opened unhex hex
-table = hex "1110010118048070008040"
+unfolding opened unhex hexed
+table = hexed "1110010118048070008040"
 
 -- "Table start: 19; it answers state 0 and the modules that run."
-start-hold : map tableStart (table ∷ hex "1200000078012001" ∷ hex "10" ∷ []) ≡ stepsTo 0 (1 ∷ []) ∷ stepsTo 0 (1 ∷ 1 ∷ []) ∷ notStepped 19 ∷ []
-unfolding opened unhex hex table
+start-hold : map tableStart (table ∷ hexed "1200000078012001" ∷ hexed "10" ∷ []) ≡ stepsTo 0 (1 ∷ []) ∷ stepsTo 0 (1 ∷ 1 ∷ []) ∷ notStepped 19 ∷ []
+unfolding opened unhex hexed table
 start-hold = refl
 
 -- a question to the table's step: state, letter, answer
@@ -104,11 +105,11 @@ asks =
     ∷ []
 
 step-hold : map (λ a. tableStep table (a .state) (a .letter)) asks ≡ map (λ a. a .says) asks
-unfolding opened unhex hex table ask asks
+unfolding opened unhex hexed table ask asks
 step-hold = refl
 
-step-19 : tableStep (hex "1110010118048070008041") 2 98 ≡ notStepped 19
-unfolding opened unhex hex
+step-19 : tableStep (hexed "1110010118048070008041") 2 98 ≡ notStepped 19
+unfolding opened unhex hexed
 step-19 = refl
 
 -- ---- live start and step: with a coding of one byte in front, 1 for the start, so that the order of refusals shows
@@ -170,3 +171,13 @@ shows c = c .number ∷ c .states ∷ c .size ∷ take 3 (drop 9 (c .output)) ++
 compile-hold : map shows (called 26640 65536 ∷ called 26639 65536 ∷ called 26640 65535 ∷ []) ≡ (0 ∷ 2 ∷ 11 ∷ 128 ∷ 64 ∷ 7 ∷ 0 ∷ 0 ∷ []) ∷ (1 ∷ 0 ∷ 0 ∷ 7 ∷ 7 ∷ 7 ∷ 7 ∷ 7 ∷ []) ∷ (1 ∷ 0 ∷ 0 ∷ 7 ∷ 7 ∷ 7 ∷ 7 ∷ 7 ∷ []) ∷ []
 unfolding opened called shows
 compile-hold = refl
+
+-- ---- what the two programs print
+
+print-hold : map (λ f. answerText (compiledFor basic f)) ("standard E\nprogram a/E.\n" ∷ "standard E\nfugitve F\n" ∷ "" ∷ []) ≡ bytes "ok 2 11\n1110010118048070008040\n" ∷ bytes "refused 4 at 11\n" ∷ bytes "refused 7 at 0\n" ∷ []
+unfolding opened compiledFor
+print-hold = refl
+
+decimal-hold : map decimal (0 ∷ 9 ∷ 10 ∷ 512 ∷ 26639 ∷ []) ≡ bytes "0" ∷ bytes "9" ∷ bytes "10" ∷ bytes "512" ∷ bytes "26639" ∷ []
+unfolding opened
+decimal-hold = refl

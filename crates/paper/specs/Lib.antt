@@ -15,3 +15,4 @@ pub mod Table
 pub mod IsTable
 pub mod Refusals
 pub mod Calls
+pub mod Programs
