@@ -31,7 +31,11 @@ pub fn reading_answer(bytes: &[u8], edition: Edition) -> Vec<u8> {
     let mut out = b"read".to_vec();
     for letters in [config.modules, events, fugitive] {
         out.push(b' ');
-        out.extend(if letters.is_empty() { vec![b'-'] } else { letters });
+        out.extend(if letters.is_empty() {
+            vec![b'-']
+        } else {
+            letters
+        });
     }
     out.push(b' ');
     postorder(&config.program, &mut out);

@@ -124,7 +124,11 @@ pub fn postorder(term: &Term, out: &mut Vec<u8>) {
         Term::Seq(x, y) | Term::Par(x, y) => {
             postorder(x, out);
             postorder(y, out);
-            out.push(if matches!(term, Term::Seq(..)) { b';' } else { b'|' });
+            out.push(if matches!(term, Term::Seq(..)) {
+                b';'
+            } else {
+                b'|'
+            });
         }
         Term::Star(x) => {
             postorder(x, out);
