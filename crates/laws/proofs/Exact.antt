@@ -1,7 +1,7 @@
 -- No. 17 and 18 are given exactly when document 01 says: "more than 512 reachable states" (no list of 512 has them all), and, where that does not
 -- hold, "a reachable term of more than 8,192 parts". What was discovered is what is reachable (`Discovers`), so a test over the one is the fact over
 -- the other. Assumes nothing.
-use Prim.Native.Nat.{ℕ, _<_}
+use Prim.Native.Nat.{_<_}
 use mathlib.Core.Path.{_≡_, refl, sym, _∙_, subst}
 use mathlib.Core.Bool.{Bool, true, false, cond, true≢false}
 use mathlib.Core.List.{List, [], _∷_}
@@ -15,12 +15,10 @@ use Rattle.paper.specs.Reaction.{Program, State}
 use Rattle.paper.specs.Discovery.{Reach, hasS, mostStates, Found, discovered}
 use Rattle.paper.specs.Refusals.{mostParts, partsOf, tooLarge, tooMany, discovering}
 use Rattle.paper.proofs.Equal.{eqS-sound, eqS-refl}
+use Rattle.paper.proofs.Choices.{clash}
 use Rattle.laws.proofs.Letters.{by-cond}
 use Rattle.laws.proofs.Members.{Has, has-none, has-cases, has-head, has-tail}
 use Rattle.laws.proofs.Discovers.{discovered-sound, discovered-complete, few-states, many-states}
-
-clash : {A : Type 0} → _≡_ {A = ℕ} 0 1 → A
-clash e = absurd (omega arith)
 
 -- ---- No. 18's test over a list is a state of the list
 

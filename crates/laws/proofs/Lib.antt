@@ -18,5 +18,6 @@ pub mod Letters
 pub mod Reached
 pub mod Answers
 -- ---- the outcomes of the calls
+pub mod Ordered
 pub mod Outcomes
 pub mod Exact

@@ -17,7 +17,7 @@ use Rattle.paper.specs.Running.{armed}
 use Rattle.paper.specs.Rewriting.{Letter, completion, occurrence, completed, taken}
 use Rattle.paper.specs.Settling.{Held, held, oldest, settle, settled}
 use Rattle.paper.specs.Reaction.{Program}
-use Rattle.paper.proofs.Choices.{by-option}
+use Rattle.paper.proofs.Choices.{by-option, clash}
 
 -- no stored event is armed; at the end none is stored
 abbrev pub Quiet : Left → List ℕ → Type 0
@@ -27,7 +27,7 @@ Quiet (still t) m = oldest t m ≡ none
 -- the memory is shorter by the event that is served
 pub oldest-leaves : (t : Term) (m : List ℕ) (e : ℕ) → oldest t m ≡ some e → length (without e m) + 1 ≡ length m
 unfolding oldest without
-oldest-leaves t [] e p = let z : _≡_ {A = ℕ} 0 1 = cc in omega arith
+oldest-leaves t [] e p = clash (cc)
 oldest-leaves t (x ∷ m) e p = go (armed x t) (eqb e x) refl p (λ r. oldest-leaves t m e r)
   where
     go : (b c : Bool) → eqb e x ≡ c → cond b (some x) (oldest t m) ≡ some e → (oldest t m ≡ some e → length (without e m) + 1 ≡ length m) → length (cond c m (x ∷ without e m)) + 1 ≡ suc (length m)
