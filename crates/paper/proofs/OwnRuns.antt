@@ -106,6 +106,16 @@ orderRuns =
     -- modules beside it keep running; several stop and start in one reaction
     ∷ steps "standard E\nprogram [a||[b||c]/E:d].\n" "E" (out "[a||d]." "" "bc" "0331" ∷ [])
     ∷ steps "standard E\nprogram [a||b]/E:[c||d].\n" "Ecd" (out "[c||d]." "" "ab" "3311" ∷ out "d." "" "ab" "0000" ∷ out "" "" "" "0000" ∷ [])
+    -- an event is no module, though both are the first of their alphabet
+    ∷ steps "standard A\nprogram a/A:b.\n" "A" (out "b." "" "a" "31" ∷ [])
+    ∷ []
+
+-- tables: states in the order in which they are found, each in turn; a fugitive event, and a module that does not run at the start
+abbrev pub tableRuns : List Run
+tableRuns =
+    table basic "program [ab||cd].\n" 9
+    "14000800443a80440000080804000000002030081004000081040000000002050000000000081804000000002060000002070081c400000000000000000000000000020800000020800000000000000000000000000000"
+    ∷ table adaptive "fugitive E\nprogram ab/E:c.\n" 4 "13100300444c804400000000800000008080000080cd000000000000808000000000808080c0"
     ∷ []
 
 -- refusals of a file, each at its border
@@ -124,10 +134,12 @@ refusalRuns =
     ∷ refuse adaptive "Program a.\n" 4 0
     ∷ refuse adaptive "program a.\nprogram b.\n" 5 11
     ∷ refuse adaptive "standard E\nstandard e\nprogram a/E.\n" 5 11
+    ∷ refuse adaptive "fugitive E\nfugitive F\nprogram a/{E|F}.\n" 5 11
     -- line by line: the first line's 6 before the second line's 3
     ∷ refuse adaptive "standard e\nprogram\n" 6 9
     ∷ refuse adaptive "standard EE\nprogram a/E.\n" 6 10
     ∷ refuse adaptive "standard EF\nprogram a/E.\nfugitive GF\n" 6 35
+    ∷ refuse adaptive "fugitive E\nstandard E\nprogram a/E.\n" 6 20
     ∷ refuse adaptive "standard E\n" 7 11
     -- not a program
     ∷ refuse adaptive "program  a.\n" 8 8
@@ -152,19 +164,53 @@ refusalRuns =
     ∷ refuse adaptive "fugitive E\nprogram [[[[[[[[[[[[[[[a/{E|{E|E}}]]]]]]]]]]]]]]].\n" 9 39
     ∷ refuse adaptive "fugitive E\nprogram [[a/E:[b*]*]*]*.\n" 9 33
     ∷ count "fugitive E\nprogram [[a*]*]*/E:[b*]*.\n" 2
+    -- of several stars the first, wherever it stands; stars beside each other do not add up
+    ∷ refuse adaptive "program [[[[a*]*]*]*]*.\n" 9 19
+    ∷ refuse adaptive "program b[[[a*]*]*]*.\n" 9 19
+    ∷ refuse adaptive "fugitive EF\nprogram a/{E|F:[[[b*]*]*]*}.\n" 9 37
+    ∷ refuse adaptive "fugitive EF\nprogram a/{E||F:[[[b*]*]*]*}.\n" 9 38
+    ∷ count "program [[a*b*]*]*.\n" 1
+    ∷ count "program [[a*||b*]*]*.\n" 1
+    ∷ count "standard E\nprogram [[a*/E:b*]*]*.\n" 3
+    -- brackets and braces that are closed again do not count: 17 groups in a row, 12 braces and 5 brackets
+    ∷ count "program [a][a][a][a][a][a][a][a][a][a][a][a][a][a][a][a][a].\n" 18
+    ∷ count "fugitive E\nprogram 1/{E|E}1/{E|E}1/{E|E}1/{E|E}1/{E|E}1/{E|E}1/{E|E}1/{E|E}1/{E|E}1/{E|E}1/{E|E}1/{E|E}[[[[[a]]]]].\n" 14
+    -- tokens before brackets, brackets before stars
+    ∷ refuse adaptive "program [[[[[[[[[[[[[[[[[aaaaaaaaaaaaaaaaaaaaaaaaaaaaaaaaaaaaaaaaaaaaaaaaaaaaaaaaaaaaaaa]]]]]]]]]]]]]]]]].\n" 9 104
+    ∷ refuse adaptive "program [[[[[[[[[[[[[[[[[a*]*]*]*]]]]]]]]]]]]]].\n" 9 24
     -- letters: not listed, not used, the ninth
     ∷ refuse adaptive "program a/E.\n" 10 10
     ∷ refuse adaptive "program a/E.\nstandard FE\nfugitive B\n" 11 22
+    ∷ refuse adaptive "standard E\nfugitive GH\nprogram a/{E|G}.\n" 11 21
+    ∷ refuse adaptive "standard EF\nprogram a/E.\n" 11 10
+    -- the first of two, 10 before 11, 9 before 10
+    ∷ refuse adaptive "program a/{E|F}.\n" 10 11
+    ∷ refuse adaptive "standard F\nprogram a/E.\n" 10 21
+    ∷ refuse adaptive "program a/Eaaaaaaaaaaaaaaaaaaaaaaaaaaaaaaaaaaaaaaaaaaaaaaaaaaaaaaaaaaaaaaaaaaaaaaaaaaaaaaaaaaaaaaaaaaaaaa.\n" 9 104
     ∷ refuse adaptive "program abcdefghi.\n" 12 16
     ∷ refuse adaptive "fugitive ABCDEFGHI\nprogram a/{A|B|C|D|E|F|G|H|I}.\n" 12 46
+    -- the ninth module before the ninth event, different letters only, and 12 before 13
+    ∷ refuse adaptive "fugitive ABCDEFGHI\nprogram 1/{A|B|C|D|E|F|G|H|I}abcdefghi.\n" 12 56
+    ∷ count "program aabbccddeeffgghh.\n" 17
+    ∷ refuse adaptive "program [a||a]bcdefghi.\n" 12 21
     -- sides: in brackets and in braces, grouped to the right
     ∷ refuse adaptive "program [a||b||a].\n" 13 10
     ∷ refuse adaptive "standard EF\nprogram 1/{E:a||F:a}.\n" 13 26
+    ∷ refuse adaptive "standard EFG\nprogram 1/{E:a||F||G:a}.\n" 13 27
+    ∷ refuse adaptive "standard EFG\nprogram 1/{E||F:a||G:a}.\n" 13 30
+    -- an inner one that comes first, one behind another item, one in a treatment; 13 everywhere before 14
+    ∷ refuse adaptive "program [[a||a]||a].\n" 13 11
+    ∷ refuse adaptive "program c[a||a].\n" 13 11
+    ∷ refuse adaptive "standard E\nprogram a/E:[b||b].\n" 13 25
+    ∷ refuse adaptive "standard E\nprogram [1/E||1/E][a||a].\n" 13 31
     ∷ refuse adaptive "standard E\nprogram 1/{E||E}.\n" 14 23
     ∷ count "program [1||1].\n" 1
     -- Basic
     ∷ refuse basic "standard E\nfugitive F\nprogram a/{E|F}.\n" 15 11
     ∷ refuse basic "standard EF\nprogram [a||b/{E||F}].\n" 16 28
+    -- 15 before 16, and 10 before both
+    ∷ refuse basic "fugitive E\nstandard F\nprogram 1/{E||F}.\n" 15 0
+    ∷ refuse basic "fugitive E\nprogram a/{E|F}.\n" 10 24
     ∷ []
 
 -- the state counts of the source papers' own examples that fit document 01, events standard unless said
@@ -202,7 +248,7 @@ paperRuns =
     ∷ []
 
 abbrev pub own-runs : List Run
-own-runs = joinRuns ++ (takingRuns ++ (memoryRuns ++ (orderRuns ++ (refusalRuns ++ paperRuns))))
+own-runs = joinRuns ++ (takingRuns ++ (memoryRuns ++ (orderRuns ++ (tableRuns ++ (refusalRuns ++ paperRuns)))))
 
 pub own-runs-hold : map got own-runs ≡ map expected own-runs
 unfolding opened unhex reactedFor compiledFor got expected
