@@ -1,0 +1,4 @@
+-- What the contracts of this crate speak of.
+pub mod Kinds
+pub mod Spans
+pub mod Steps
