@@ -1,0 +1,4 @@
+-- What the readers answer.
+pub mod Store
+pub mod Readers
+pub mod Outcome
