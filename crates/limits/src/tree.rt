@@ -1,0 +1,188 @@
+// Checks on the nodes of a program, as the reader wrote them: `code`, `left` and `place` have them in their first n places, each after its parts,
+// so a node's right or only part stands just before it, and `left` says where a join's left part stands.
+ghost use mathlib.Core.Path.{_≡_};
+ghost use mathlib.Core.Bool.{Bool, true, false, cond, not, _&&_, _||_};
+ghost use mathlib.Core.List.{List, []};
+ghost use Prim.Native.Nat.{ℕ, _+_, _-_, _≤_, _<_, min, max};
+ghost use lib.ListN.{length, take, getD};
+ghost use Rattle.paper.specs.Grammar.{Sequence};
+ghost use Rattle.paper.specs.Limits.{tooStarred, sharedModule, sharedEvent, bracesJoined};
+ghost use Rattle.limits.specs.Found.{found};
+ghost use Rattle.limits.specs.Letters.{Tells};
+ghost use Rattle.limits.specs.Nodes.{far, there, isStar, isJoin, isBars, scan, nest, nesting, uses, sharing, joining, leastOver, Written};
+use super::Found;
+
+// Above every place.
+const FAR: usize = 65536;
+
+// The answer of a pass: a place, or FAR for none.
+fn answer(best: usize) -> Found
+    ensures { λ r. ⌜ found r ≡ there best ⌝ }
+{
+    if best < FAR {
+        return Found::At(best);
+    }
+    Found::Nothing
+}
+
+// The lesser of two places, the second only where it counts.
+fn nearer(best: usize, counts: bool, place: usize) -> usize
+    requires { ⌜ best ≤ far ⌝ }
+    ensures { λ r. ⌜ (r ≡ min best (cond counts place far)) × (r ≤ far) ⌝ }
+{
+    if counts {
+        if place < best {
+            return place;
+        }
+    }
+    best
+}
+
+// The node before node i; for node 0, which is a letter or `1`, the answer is not looked at.
+fn previous(i: usize) -> usize
+    ensures { λ r. ⌜ r ≡ i - 1 ⌝ }
+{
+    if i == 0 {
+        return 0;
+    }
+    i - 1
+}
+
+fn is_bars(c: u8) -> bool
+    ensures { λ r. ⌜ r ≡ isBars c ⌝ }
+{
+    (c == 124) | (c == 38)
+}
+
+fn is_join(c: u8) -> bool
+    ensures { λ r. ⌜ r ≡ isJoin c ⌝ }
+{
+    (c == 124) | (c == 38) | (c == 59) | (c == 47) | (c == 58) | (c == 33)
+}
+
+// How many stars nest in a node, where y and z nest in its parts.
+fn nested(c: u8, y: u8, z: u8) -> u8
+    requires { ⌜ z < 255 ⌝ }
+    ensures { λ r. ⌜ (r ≡ nest c y z) × (r ≤ max y z + 1) ⌝ }
+{
+    if c == 42 {
+        return z + 1;
+    }
+    if is_join(c) {
+        if y < z {
+            return z;
+        }
+        return y;
+    }
+    0
+}
+
+// No. 9: the first star over a part with three nested. The array has a place for each byte, so that any `left` is an index.
+pub fn too_starred(code: &[u8], left: &[u8], place: &[u16], n: usize) -> Found
+    requires { ⌜ (n ≤ 192) × (n ≤ length (now code)) × (n ≤ length (now left)) × (n ≤ length (now place)) ⌝ }
+    ensures { λ r. ⌜ ((at : ℕ) (q : Sequence) → Written at q (now (code .entry)) (now (left .entry)) (now (place .entry)) n → found r ≡ tooStarred at q) ⌝ }
+{
+    let mut nests = [0u8; 256];
+    let mut best = FAR;
+    let mut i: usize = 0;
+    while i < n {
+        let c = code[i];
+        let l = left[i] as usize;
+        let y = nests[l];
+        let k = previous(i);
+        let z = nests[k];
+        let p = place[i] as usize;
+        best = nearer(best, (c == 42) & (3 <= z), p);
+        nests[i] = nested(c, y, z);
+        i += 1;
+    }
+    answer(best)
+}
+
+// A node uses the letter, where y and z say so of its parts.
+fn node_uses(x: u8, c: u8, y: bool, z: bool) -> bool
+    ensures { λ r. ⌜ r ≡ uses x c y z ⌝ }
+{
+    (c == 42) & z | is_join(c) & (y | z) | (x == c)
+}
+
+// The least place of a `||` with the letter x on both sides.
+fn shared(code: &[u8], left: &[u8], place: &[u16], n: usize, x: u8) -> usize
+    requires { ⌜ (n ≤ 192) × (n ≤ length (now code)) × (n ≤ length (now left)) × (n ≤ length (now place)) ⌝ }
+    ensures { λ r. ⌜ r ≡ scan (sharing x) (take n (now (code .entry))) (take n (now (left .entry))) (take n (now (place .entry))) [] far ⌝ }
+{
+    let mut used = [false; 256];
+    let mut best = FAR;
+    let mut i: usize = 0;
+    while i < n {
+        let c = code[i];
+        let l = left[i] as usize;
+        let y = used[l];
+        let k = previous(i);
+        let z = used[k];
+        let p = place[i] as usize;
+        best = nearer(best, is_bars(c) & y & z, p);
+        used[i] = node_uses(x, c, y, z);
+        i += 1;
+    }
+    best
+}
+
+// The least over the 26 letters from a base on, without those to skip.
+fn shared_by_any(
+    code: &[u8],
+    left: &[u8],
+    place: &[u16],
+    n: usize,
+    base: u8,
+    skip: [bool; 26],
+) -> usize
+    requires { ⌜ (n ≤ 192) × (n ≤ length (now code)) × (n ≤ length (now left)) × (n ≤ length (now place)) × (base ≤ 97) ⌝ }
+    ensures { λ r. ⌜ r ≡ leastOver (λ (k : ℕ). scan (sharing (base + k)) (take n (now (code .entry))) (take n (now (left .entry))) (take n (now (place .entry))) [] far) (λ (k : ℕ). not (getD skip k false)) 26 ⌝ }
+{
+    let mut best = FAR;
+    let mut k: u8 = 0;
+    while k < 26 {
+        let p = shared(code, left, place, n, base + k);
+        best = nearer(best, !skip[k as usize], p);
+        k += 1;
+    }
+    best
+}
+
+// No. 13: the first `||` with a module on both sides.
+pub fn shared_module(code: &[u8], left: &[u8], place: &[u16], n: usize) -> Found
+    requires { ⌜ (n ≤ 192) × (n ≤ length (now code)) × (n ≤ length (now left)) × (n ≤ length (now place)) ⌝ }
+    ensures { λ r. ⌜ ((at : ℕ) (q : Sequence) → Written at q (now (code .entry)) (now (left .entry)) (now (place .entry)) n → found r ≡ sharedModule at q) ⌝ }
+{
+    answer(shared_by_any(code, left, place, n, 97, [false; 26]))
+}
+
+// No. 14: the first `||` with a standard event on both sides.
+pub fn shared_event(
+    code: &[u8],
+    left: &[u8],
+    place: &[u16],
+    n: usize,
+    fugitive: [bool; 26],
+) -> Found
+    requires { ⌜ (n ≤ 192) × (n ≤ length (now code)) × (n ≤ length (now left)) × (n ≤ length (now place)) ⌝ }
+    ensures { λ r. ⌜ ((at : ℕ) (q : Sequence) (ls : List ℕ) → Written at q (now (code .entry)) (now (left .entry)) (now (place .entry)) n → Tells fugitive ls → found r ≡ sharedEvent ls at q) ⌝ }
+{
+    answer(shared_by_any(code, left, place, n, 65, fugitive))
+}
+
+// No. 16: the first `||` between interruptions.
+pub fn braces_joined(code: &[u8], place: &[u16], n: usize) -> Found
+    requires { ⌜ (n ≤ length (now code)) × (n ≤ length (now place)) ⌝ }
+    ensures { λ r. ⌜ ((at : ℕ) (q : Sequence) (left : List ℕ) → Written at q (now (code .entry)) left (now (place .entry)) n → found r ≡ bracesJoined at q) ⌝ }
+{
+    let mut best = FAR;
+    let mut i: usize = 0;
+    while i < n {
+        let p = place[i] as usize;
+        best = nearer(best, code[i] == 38, p);
+        i += 1;
+    }
+    answer(best)
+}
