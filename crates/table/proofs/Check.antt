@@ -1,0 +1,148 @@
+-- Each wrong part makes No. 19, and where none is wrong the bytes are a table. `isTable` is one chain of `||`, taken apart from its end.
+-- Assumes nothing.
+use Prim.Native.Nat.{ℕ, suc, _+_, _*_, _/_, _-_, _≤_, _<_}
+use mathlib.Core.Path.{_≡_, refl, sym, ap, ap₂, _∙_}
+use mathlib.Core.Bool.{Bool, true, false, not, _&&_, _||_, or-true}
+use mathlib.Core.Logic.{_⊎_, inl, inr}
+use mathlib.Core.List.{List}
+use native.Mathlib.Omega.{arith}
+use borrow.Author.Tests.{eq-eqb, ne-eqb, le-leb, leb-true, not-true}
+use lib.Dec.{eqb, leb}
+use lib.ListN.{length, take, drop, length-drop}
+use lib.Seq.{take-all}
+use Rattle.paper.specs.IsTable.{bitsOf, numberFrom, field, layout, moduleCount, eventCount, stateCount, bitCount, wrongLayout, wrongCount, wrongLength, ascend, wrongName, wrongNext, wrongZeros, wrongEvent, wrongStart, wrongPadding, isTable}
+use Rattle.fields.proofs.Bits.{bitsOf-length}
+use Rattle.table.specs.declared.Counts.{Counts}
+use Rattle.table.specs.Places.{place}
+use Rattle.table.specs.Check.{Read, Counted, inLimits}
+use Rattle.table.proofs.Tests.{or-cases, not-or, not-not, and-both}
+use Rattle.table.proofs.Rows.{with-counts}
+
+-- ---- one part is wrong
+
+module _ (t : List ℕ) where
+  pub no-start : wrongStart t ≡ true → isTable t ≡ false
+  unfolding isTable
+  no-start h = simp (h, or-true)
+
+  pub no-event : wrongEvent t ≡ true → isTable t ≡ false
+  unfolding isTable
+  no-event h = simp (h, or-true)
+
+  pub no-zeros : wrongZeros t ≡ true → isTable t ≡ false
+  unfolding isTable
+  no-zeros h = simp (h, or-true)
+
+  pub no-length : wrongLength t ≡ true → isTable t ≡ false
+  unfolding isTable
+  no-length h = simp (h, or-true)
+
+  pub no-padding : wrongPadding t ≡ true → isTable t ≡ false
+  unfolding isTable
+  no-padding h = simp (h, or-true)
+
+  pub no-next : wrongNext t ≡ true → isTable t ≡ false
+  unfolding isTable
+  no-next h = simp (h, or-true)
+
+  pub no-name : wrongName t ≡ true → isTable t ≡ false
+  unfolding isTable
+  no-name h = simp (h, or-true)
+
+  pub no-count : wrongCount t ≡ true → isTable t ≡ false
+  unfolding isTable
+  no-count h = simp (h, or-true)
+
+  pub no-layout : wrongLayout t ≡ true → isTable t ≡ false
+  unfolding isTable
+  no-layout h = simp h
+
+  pub no-rows : (wrongNext t || wrongZeros t || wrongEvent t) ≡ true → isTable t ≡ false
+  no-rows h = last (or-cases (wrongNext t || wrongZeros t) (wrongEvent t) h)
+    where
+      first : (wrongNext t ≡ true) ⊎ (wrongZeros t ≡ true) → isTable t ≡ false
+      first (inl a) = no-next a
+      first (inr a) = no-zeros a
+
+      last : ((wrongNext t || wrongZeros t) ≡ true) ⊎ (wrongEvent t ≡ true) → isTable t ≡ false
+      last (inl a) = first (or-cases (wrongNext t) (wrongZeros t) a)
+      last (inr a) = no-event a
+
+-- ---- the header
+
+pub short-no : (t : List ℕ) → length t < 3 → isTable t ≡ false
+unfolding wrongLength
+short-no t h = no-length t (ap not (ne-eqb (length t) ((bitCount t + 7) / 8) (λ e. omega arith)))
+
+pub layout-no : (t : List ℕ) (x : ℕ) → x ≡ field t 0 4 → (x ≡ 1 → ⊥) → isTable t ≡ false
+unfolding wrongLayout layout
+layout-no t x e h = no-layout t (ap not (ne-eqb (field t 0 4) 1 (λ f. h (e ∙ f))))
+
+pub limits-no : (t : List ℕ) (c : Counts) → Read t c → inLimits c ≡ false → isTable t ≡ false
+unfolding wrongCount
+limits-no t c r h = no-count t (ap not (sym (with-counts (λ m n s. leb m 8 && leb n 8 && leb s 512) t c r) ∙ h))
+
+pub length-no : (t : List ℕ) (c : Counts) → Read t c → (length t ≡ (place (c .modules) (c .events) (c .states) 0 + 7) / 8 → ⊥) → isTable t ≡ false
+unfolding wrongLength
+length-no t c r h =
+    no-length t (ap not (ne-eqb (length t) ((bitCount t + 7) / 8) (λ e. h (e ∙ ap (λ (n : ℕ). (n + 7) / 8) (sym (with-counts (λ m n s. place m n s 0) t c r))))))
+
+pub in-limits : (c : Counts) → inLimits c ≡ true → (c .modules ≤ 8) × ((c .events ≤ 8) × (c .states ≤ 512))
+in-limits c h =
+    let a = and-both (leb (c .modules) 8 && leb (c .events) 8) (leb (c .states) 512) h in
+    let b = and-both (leb (c .modules) 8) (leb (c .events) 8) (a .0) in
+    (leb-true (c .modules) 8 (b .0), (leb-true (c .events) 8 (b .1), leb-true (c .states) 512 (a .1)))
+
+pub some-states : (t : List ℕ) (c : Counts) → Read t c → 1 ≤ c .states
+unfolding stateCount
+some-states t c r = let s = r .states in omega arith
+
+-- ---- the names, the padding
+
+abbrev pub namesRight : List ℕ → (m n : ℕ) → Bool
+namesRight t m n = ascend t 0 m && ascend t m n
+
+pub names-right : (t : List ℕ) (c : Counts) → Read t c → namesRight t (c .modules) (c .events) ≡ not (wrongName t)
+unfolding wrongName
+names-right t c r = with-counts (λ m n s. namesRight t m n) t c r ∙ sym (not-not (ascend t 0 (moduleCount t) && ascend t (moduleCount t) (eventCount t)))
+
+pub padding-right : (t : List ℕ) (c : Counts) (end x : ℕ) → Read t c → end ≡ place (c .modules) (c .events) (c .states) 0
+    → x ≡ field t end (8 * length t - end) → eqb x 0 ≡ not (wrongPadding t)
+unfolding wrongPadding field
+padding-right t c end x r f e =
+    let l : length (drop end (bitsOf t)) ≤ 8 * length t - end = simp (length-drop, bitsOf-length) (omega arith) in
+    ap (λ (n : ℕ). eqb n 0) (e ∙ ap (numberFrom 0) (take-all (8 * length t - end) (drop end (bitsOf t)) l))
+    ∙ ap (λ (n : ℕ). eqb (numberFrom 0 (drop n (bitsOf t))) 0) (f ∙ with-counts (λ m n s. place m n s 0) t c r)
+    ∙ sym (not-not (eqb (numberFrom 0 (drop (bitCount t) (bitsOf t))) 0))
+
+-- ---- nothing is wrong
+
+right-layout : (t : List ℕ) → layout t ≡ 1 → wrongLayout t ≡ false
+unfolding wrongLayout
+right-layout t h = ap not (eq-eqb (layout t) 1 h)
+
+right-count : (t : List ℕ) (c : Counts) → Counted t c → wrongCount t ≡ false
+unfolding wrongCount
+right-count t c h =
+    ap not
+    (sym (with-counts (λ m n s. leb m 8 && leb n 8 && leb s 512) t c (h .read))
+    ∙ ap₂ (λ (a b : Bool). a && b) (ap₂ (λ (a b : Bool). a && b) (le-leb (c .modules) 8 (h .fewModules)) (le-leb (c .events) 8 (h .fewEvents))) (le-leb (c .states) 512 (h .fewStates)))
+
+right-length : (t : List ℕ) (c : Counts) → Counted t c → wrongLength t ≡ false
+unfolding wrongLength
+right-length t c h =
+    ap not (eq-eqb (length t) ((bitCount t + 7) / 8) (h .long ∙ ap (λ (n : ℕ). (n + 7) / 8) (with-counts (λ m n s. place m n s 0) t c (h .read))))
+
+pub is-table : (t : List ℕ) (c : Counts) → Counted t c → not (wrongName t) ≡ true → not (wrongStart t) ≡ true
+    → not (wrongNext t || wrongZeros t || wrongEvent t) ≡ true → not (wrongPadding t) ≡ true → isTable t ≡ true
+unfolding isTable
+is-table t c h n s r p =
+    let l = right-layout t (h .laid) in
+    let k = right-count t c h in
+    let g = right-length t c h in
+    let a = not-true (wrongName t) n in
+    let b = not-true (wrongStart t) s in
+    let d = not-true (wrongPadding t) p in
+    let e = not-or (wrongNext t || wrongZeros t) (wrongEvent t) r in
+    let f = not-or (wrongNext t) (wrongZeros t) (ap not (e .0)) in
+    simp (l, k, g, a, b, d, e .1, f .0, f .1)

@@ -1,0 +1,64 @@
+-- Numbers below a count, one more of them; and eight places filled one by one. Assumes nothing.
+use Prim.Native.Nat.{ℕ, zero, suc, _+_, _*_, _^_, _≤_, _<_}
+use mathlib.Core.Path.{_≡_, refl, sym, ap, ap₂, _∙_, subst}
+use mathlib.Core.List.{List, [], _∷_, _++_, map, append-assoc}
+use native.Mathlib.Nat.{add-zero, add-suc, suc-add, zero-add, lt-of-lt-of-le}
+use native.Mathlib.Numerals.{add-one}
+use native.Mathlib.Omega.{arith}
+use lib.ListN.{length, take, set, replicate, length-append}
+use lib.Seq.{take-set-lt, set-at, take-append-le}
+use lib.Pow.{pow-mono}
+use Rattle.paper.specs.Lists.{from, below}
+use Rattle.paper.specs.IsTable.{field}
+use Rattle.paper.specs.Calls.{eight}
+use Rattle.fields.proofs.Fields.{field-lt}
+use Rattle.table.specs.Answers.{fieldsFrom}
+
+from-snoc : (f : ℕ → ℕ) (k n : ℕ) → map f (from k (suc n)) ≡ map f (from k n) ++ (f (k + n) ∷ [])
+unfolding from
+from-snoc f k zero = ap (λ (i : ℕ). f i ∷ []) (sym (add-zero k))
+from-snoc f k (suc n) =
+    let e : suc k + n ≡ k + suc n = omega arith in
+    ap (λ (l : List ℕ). f k ∷ l) (from-snoc f (suc k) n ∙ ap (λ (i : ℕ). map f (from (suc k) n) ++ (f i ∷ [])) e)
+
+from-length : (f : ℕ → ℕ) (k n : ℕ) → length (map f (from k n)) ≡ n
+unfolding from
+from-length f k zero = refl
+from-length f k (suc n) = ap suc (from-length f (suc k) n)
+
+below-more : (f : ℕ → ℕ) (k : ℕ) → map f (below (k + 1)) ≡ map f (below k) ++ (f k ∷ [])
+unfolding below
+below-more f k =
+    ap (λ (n : ℕ). map f (from 0 n)) (add-one k) ∙ from-snoc f 0 k ∙ ap (λ (i : ℕ). map f (from 0 k) ++ (f i ∷ [])) (zero-add k)
+
+below-length : (f : ℕ → ℕ) (k : ℕ) → length (map f (below k)) ≡ k
+unfolding below
+below-length f k = from-length f 0 k
+
+-- one zero fewer is enough where something stands in front
+eight-fewer : (ys : List ℕ) → 1 ≤ length ys → take 8 (ys ++ replicate 7 0) ≡ eight ys
+eight-fewer ys h =
+    let l : 8 ≤ length (ys ++ replicate 7 0) = simp length-append (omega arith) in
+    sym (take-append-le 8 (ys ++ replicate 7 0) (0 ∷ []) l) ∙ ap (take 8) (append-assoc ys (replicate 7 0) (0 ∷ []))
+
+eight-set : (xs : List ℕ) (k v : ℕ) → length xs ≡ k → k < 8 → set (eight xs) k v ≡ eight (xs ++ (v ∷ []))
+eight-set xs k v e h =
+    let l : 1 ≤ length (xs ++ (v ∷ [])) = simp length-append (omega arith) in
+    sym (take-set-lt 8 (xs ++ replicate 8 0) k v h) ∙ ap (take 8) (set-at xs 0 (replicate 7 0) v k e)
+    ∙ ap (take 8) (sym (append-assoc xs (v ∷ []) (replicate 7 0))) ∙ eight-fewer (xs ++ (v ∷ [])) l
+
+pub orders-none : (t : List ℕ) (at w : ℕ) → replicate 8 0 ≡ eight (fieldsFrom t at w 0)
+unfolding fieldsFrom below from
+orders-none t at w = refl
+
+pub orders-more : (t : List ℕ) (at w k v : ℕ) (o : List ℕ) → o ≡ eight (fieldsFrom t at w k) → v ≡ field t (at + w * k) w → k < 8
+    → set o k v ≡ eight (fieldsFrom t at w (k + 1))
+unfolding fieldsFrom
+orders-more t at w k v o e f h =
+    let g : ℕ → ℕ = λ i. field t (at + w * i) w in
+    ap₂ (λ (l : List ℕ) (x : ℕ). set l k x) e f ∙ eight-set (map g (below k)) k (g k) (below-length g k) h
+    ∙ ap eight (sym (below-more g k))
+
+-- a narrow field is a byte
+pub field-byte : (t : List ℕ) (at w : ℕ) → w ≤ 2 → field t at w < 4
+field-byte t at w h = lt-of-lt-of-le (field-lt t at w) (pow-mono h)

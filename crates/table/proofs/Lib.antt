@@ -1,0 +1,10 @@
+pub mod Tests
+pub mod Every
+pub mod Entries
+pub mod Places
+pub mod Rows
+pub mod Names
+pub mod Check
+pub mod Eight
+pub mod Letters
+pub mod Outcomes
