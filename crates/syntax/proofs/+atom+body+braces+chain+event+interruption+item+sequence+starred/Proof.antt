@@ -176,7 +176,7 @@ atom-same-length : (t : ℕ) → atom-lts.Need-same-length (
   body-below t,
   body.Post,
 ) (atom-at t) atom.Post
-atom-same-length t c = search needs
+atom-same-length t c = c .before .before .before .before .before .before .leaf .kept .1 .1 .0
 
 atom-same-length-2 : (t : ℕ) → atom-lts.Need-same-length-2 (
   is-reads.Asked,
@@ -186,7 +186,7 @@ atom-same-length-2 : (t : ℕ) → atom-lts.Need-same-length-2 (
   body-below t,
   body.Post,
 ) (atom-at t) atom.Post
-atom-same-length-2 t c = search needs
+atom-same-length-2 t c = c .before .before .before .before .before .before .leaf .kept .1 .1 .1 .0
 
 atom-same-length-3 : (t : ℕ) → atom-lts.Need-same-length-3 (
   is-reads.Asked,
@@ -196,7 +196,7 @@ atom-same-length-3 : (t : ℕ) → atom-lts.Need-same-length-3 (
   body-below t,
   body.Post,
 ) (atom-at t) atom.Post
-atom-same-length-3 t c = search needs
+atom-same-length-3 t c = c .before .before .before .before .before .before .leaf .kept .1 .1 .1 .1 .0
 
 atom-returns : (t : ℕ) → atom-lts.Need-returns (
   is-reads.Asked,
@@ -256,7 +256,7 @@ atom-same-length-4 : (t : ℕ) → atom-lts.Need-same-length-4 (
   body-below t,
   body.Post,
 ) (atom-at t) atom.Post
-atom-same-length-4 t c = search needs
+atom-same-length-4 t c = c .before .before .before .before .before .before .before .before .body .kept .1 .1 .0
 
 atom-same-length-5 : (t : ℕ) → atom-lts.Need-same-length-5 (
   is-reads.Asked,
@@ -266,7 +266,7 @@ atom-same-length-5 : (t : ℕ) → atom-lts.Need-same-length-5 (
   body-below t,
   body.Post,
 ) (atom-at t) atom.Post
-atom-same-length-5 t c = search needs
+atom-same-length-5 t c = c .before .before .before .before .before .before .before .before .body .kept .1 .1 .1 .0
 
 atom-same-length-6 : (t : ℕ) → atom-lts.Need-same-length-6 (
   is-reads.Asked,
@@ -276,7 +276,7 @@ atom-same-length-6 : (t : ℕ) → atom-lts.Need-same-length-6 (
   body-below t,
   body.Post,
 ) (atom-at t) atom.Post
-atom-same-length-6 t c = search needs
+atom-same-length-6 t c = c .before .before .before .before .before .before .before .before .body .kept .1 .1 .1 .1 .0
 
 atom-returns-2 : (t : ℕ) → atom-lts.Need-returns-2 (
   is-reads.Asked,
@@ -306,7 +306,7 @@ atom-same-length-7 : (t : ℕ) → atom-lts.Need-same-length-7 (
   body-below t,
   body.Post,
 ) (atom-at t) atom.Post
-atom-same-length-7 t c = search needs
+atom-same-length-7 t c = c .before .before .before .before .before .before .before .before .before .before .before .body .kept .1 .1 .0
 
 atom-same-length-8 : (t : ℕ) → atom-lts.Need-same-length-8 (
   is-reads.Asked,
@@ -316,7 +316,7 @@ atom-same-length-8 : (t : ℕ) → atom-lts.Need-same-length-8 (
   body-below t,
   body.Post,
 ) (atom-at t) atom.Post
-atom-same-length-8 t c = search needs
+atom-same-length-8 t c = c .before .before .before .before .before .before .before .before .before .before .before .body .kept .1 .1 .1 .0
 
 atom-same-length-9 : (t : ℕ) → atom-lts.Need-same-length-9 (
   is-reads.Asked,
@@ -326,7 +326,7 @@ atom-same-length-9 : (t : ℕ) → atom-lts.Need-same-length-9 (
   body-below t,
   body.Post,
 ) (atom-at t) atom.Post
-atom-same-length-9 t c = search needs
+atom-same-length-9 t c = c .before .before .before .before .before .before .before .before .before .before .before .body .kept .1 .1 .1 .1 .0
 
 atom-returns-3 : (t : ℕ) → atom-lts.Need-returns-3 (
   is-reads.Asked,
@@ -356,7 +356,7 @@ atom-same-length-10 : (t : ℕ) → atom-lts.Need-same-length-10 (
   body-below t,
   body.Post,
 ) (atom-at t) atom.Post
-atom-same-length-10 t c = search needs
+atom-same-length-10 t c = c .before .before .before .before .before .before .before .before .before .before .before .body .kept .1 .1 .0
 
 atom-same-length-11 : (t : ℕ) → atom-lts.Need-same-length-11 (
   is-reads.Asked,
@@ -366,7 +366,7 @@ atom-same-length-11 : (t : ℕ) → atom-lts.Need-same-length-11 (
   body-below t,
   body.Post,
 ) (atom-at t) atom.Post
-atom-same-length-11 t c = search needs
+atom-same-length-11 t c = c .before .before .before .before .before .before .before .before .before .before .before .body .kept .1 .1 .1 .0
 
 atom-same-length-12 : (t : ℕ) → atom-lts.Need-same-length-12 (
   is-reads.Asked,
@@ -376,7 +376,7 @@ atom-same-length-12 : (t : ℕ) → atom-lts.Need-same-length-12 (
   body-below t,
   body.Post,
 ) (atom-at t) atom.Post
-atom-same-length-12 t c = search needs
+atom-same-length-12 t c = c .before .before .before .before .before .before .before .before .before .before .before .body .kept .1 .1 .1 .1 .0
 
 atom-returns-4 : (t : ℕ) → atom-lts.Need-returns-4 (
   is-reads.Asked,
@@ -434,7 +434,7 @@ body-same-length : (t : ℕ) → body-lts.Need-same-length (
   put-reads.Asked,
   put-reads.Learnt,
 ) (body-at t) body.Post
-body-same-length t c = search needs
+body-same-length t c = c .before .before .before .before .before .before .before .before .sequence .kept .1 .1 .0
 
 body-same-length-2 : (t : ℕ) → body-lts.Need-same-length-2 (
   sequence-below t,
@@ -446,7 +446,7 @@ body-same-length-2 : (t : ℕ) → body-lts.Need-same-length-2 (
   put-reads.Asked,
   put-reads.Learnt,
 ) (body-at t) body.Post
-body-same-length-2 t c = search needs
+body-same-length-2 t c = c .before .before .before .before .before .before .before .before .sequence .kept .1 .1 .1 .0
 
 body-same-length-3 : (t : ℕ) → body-lts.Need-same-length-3 (
   sequence-below t,
@@ -458,7 +458,7 @@ body-same-length-3 : (t : ℕ) → body-lts.Need-same-length-3 (
   put-reads.Asked,
   put-reads.Learnt,
 ) (body-at t) body.Post
-body-same-length-3 t c = search needs
+body-same-length-3 t c = c .before .before .before .before .before .before .before .before .sequence .kept .1 .1 .1 .1 .0
 
 body-returns : (t : ℕ) → body-lts.Need-returns (
   sequence-below t,
@@ -494,7 +494,7 @@ body-same-length-4 : (t : ℕ) → body-lts.Need-same-length-4 (
   put-reads.Asked,
   put-reads.Learnt,
 ) (body-at t) body.Post
-body-same-length-4 t c = search needs
+body-same-length-4 t c = c .before .before .before .before .before .before .before .before .before .before .before .sequence .kept .1 .1 .0
 
 body-same-length-5 : (t : ℕ) → body-lts.Need-same-length-5 (
   sequence-below t,
@@ -506,7 +506,7 @@ body-same-length-5 : (t : ℕ) → body-lts.Need-same-length-5 (
   put-reads.Asked,
   put-reads.Learnt,
 ) (body-at t) body.Post
-body-same-length-5 t c = search needs
+body-same-length-5 t c = c .before .before .before .before .before .before .before .before .before .before .before .sequence .kept .1 .1 .1 .0
 
 body-same-length-6 : (t : ℕ) → body-lts.Need-same-length-6 (
   sequence-below t,
@@ -518,7 +518,7 @@ body-same-length-6 : (t : ℕ) → body-lts.Need-same-length-6 (
   put-reads.Asked,
   put-reads.Learnt,
 ) (body-at t) body.Post
-body-same-length-6 t c = search needs
+body-same-length-6 t c = c .before .before .before .before .before .before .before .before .before .before .before .sequence .kept .1 .1 .1 .1 .0
 
 body-returns-2 : (t : ℕ) → body-lts.Need-returns-2 (
   sequence-below t,
@@ -566,7 +566,7 @@ body-same-length-7 : (t : ℕ) → body-lts.Need-same-length-7 (
   put-reads.Asked,
   put-reads.Learnt,
 ) (body-at t) body.Post
-body-same-length-7 t c = search needs
+body-same-length-7 t c = c .before .before .before .before .before .before .before .before .before .before .before .before .before .sequence .kept .1 .1 .0
 
 body-same-length-8 : (t : ℕ) → body-lts.Need-same-length-8 (
   sequence-below t,
@@ -578,7 +578,7 @@ body-same-length-8 : (t : ℕ) → body-lts.Need-same-length-8 (
   put-reads.Asked,
   put-reads.Learnt,
 ) (body-at t) body.Post
-body-same-length-8 t c = search needs
+body-same-length-8 t c = c .before .before .before .before .before .before .before .before .before .before .before .before .before .sequence .kept .1 .1 .1 .0
 
 body-same-length-9 : (t : ℕ) → body-lts.Need-same-length-9 (
   sequence-below t,
@@ -590,7 +590,7 @@ body-same-length-9 : (t : ℕ) → body-lts.Need-same-length-9 (
   put-reads.Asked,
   put-reads.Learnt,
 ) (body-at t) body.Post
-body-same-length-9 t c = search needs
+body-same-length-9 t c = c .before .before .before .before .before .before .before .before .before .before .before .before .before .sequence .kept .1 .1 .1 .1 .0
 
 body-returns-3 : (t : ℕ) → body-lts.Need-returns-3 (
   sequence-below t,
@@ -662,7 +662,7 @@ body-same-length-10 : (t : ℕ) → body-lts.Need-same-length-10 (
   put-reads.Asked,
   put-reads.Learnt,
 ) (body-at t) body.Post
-body-same-length-10 t c = search needs
+body-same-length-10 t c = c .before .before .before .before .before .before .before .before .body .kept .1 .1 .0 ∙ c .before .before .before .before .before .before .before .before .before .before .before .before .before .before .before .before .before .before .before .before .before .before .before .before .before .sequence .kept .1 .1 .0
 
 body-same-length-11 : (t : ℕ) → body-lts.Need-same-length-11 (
   sequence-below t,
@@ -674,7 +674,7 @@ body-same-length-11 : (t : ℕ) → body-lts.Need-same-length-11 (
   put-reads.Asked,
   put-reads.Learnt,
 ) (body-at t) body.Post
-body-same-length-11 t c = search needs
+body-same-length-11 t c = c .before .before .before .before .before .before .before .before .body .kept .1 .1 .1 .0 ∙ c .before .before .before .before .before .before .before .before .before .before .before .before .before .before .before .before .before .before .before .before .before .before .before .before .before .sequence .kept .1 .1 .1 .0
 
 body-same-length-12 : (t : ℕ) → body-lts.Need-same-length-12 (
   sequence-below t,
@@ -686,7 +686,7 @@ body-same-length-12 : (t : ℕ) → body-lts.Need-same-length-12 (
   put-reads.Asked,
   put-reads.Learnt,
 ) (body-at t) body.Post
-body-same-length-12 t c = search needs
+body-same-length-12 t c = c .before .before .before .before .before .before .before .before .body .kept .1 .1 .1 .1 .0 ∙ c .before .before .before .before .before .before .before .before .before .before .before .before .before .before .before .before .before .before .before .before .before .before .before .before .before .sequence .kept .1 .1 .1 .1 .0
 
 body-returns-4 : (t : ℕ) → body-lts.Need-returns-4 (
   sequence-below t,
@@ -770,7 +770,7 @@ body-same-length-15 : (t : ℕ) → body-lts.Need-same-length-15 (
   put-reads.Asked,
   put-reads.Learnt,
 ) (body-at t) body.Post
-body-same-length-15 t c = search needs
+body-same-length-15 t c = c .before .before .before .before .before .before .put .kept .1 .1 .0 ∙ c .before .before .before .before .before .before .before .before .before .before .before .before .before .before .before .before .before .before .before .body .kept .1 .1 .1 .1 .0 ∙ c .before .before .before .before .before .before .before .before .before .before .before .before .before .before .before .before .before .before .before .before .before .before .before .before .before .before .before .before .before .before .before .before .before .before .before .before .sequence .kept .1 .1 .1 .1 .0
 
 body-returns-5 : (t : ℕ) → body-lts.Need-returns-5 (
   sequence-below t,
@@ -862,7 +862,7 @@ braces-same-length : (t : ℕ) → braces-lts.Need-same-length (
   put-reads.Asked,
   put-reads.Learnt,
 ) (braces-at t) braces.Post
-braces-same-length t c = search needs
+braces-same-length t c = c .before .before .before .before .before .before .before .before .interruption .kept .1 .1 .0
 
 braces-same-length-2 : (t : ℕ) → braces-lts.Need-same-length-2 (
   interruption-below t,
@@ -878,7 +878,7 @@ braces-same-length-2 : (t : ℕ) → braces-lts.Need-same-length-2 (
   put-reads.Asked,
   put-reads.Learnt,
 ) (braces-at t) braces.Post
-braces-same-length-2 t c = search needs
+braces-same-length-2 t c = c .before .before .before .before .before .before .before .before .interruption .kept .1 .1 .1 .0
 
 braces-same-length-3 : (t : ℕ) → braces-lts.Need-same-length-3 (
   interruption-below t,
@@ -894,7 +894,7 @@ braces-same-length-3 : (t : ℕ) → braces-lts.Need-same-length-3 (
   put-reads.Asked,
   put-reads.Learnt,
 ) (braces-at t) braces.Post
-braces-same-length-3 t c = search needs
+braces-same-length-3 t c = c .before .before .before .before .before .before .before .before .interruption .kept .1 .1 .1 .1 .0
 
 braces-returns : (t : ℕ) → braces-lts.Need-returns (
   interruption-below t,
@@ -942,7 +942,7 @@ braces-same-length-4 : (t : ℕ) → braces-lts.Need-same-length-4 (
   put-reads.Asked,
   put-reads.Learnt,
 ) (braces-at t) braces.Post
-braces-same-length-4 t c = search needs
+braces-same-length-4 t c = c .before .before .before .before .before .before .before .before .before .before .before .interruption .kept .1 .1 .0
 
 braces-same-length-5 : (t : ℕ) → braces-lts.Need-same-length-5 (
   interruption-below t,
@@ -958,7 +958,7 @@ braces-same-length-5 : (t : ℕ) → braces-lts.Need-same-length-5 (
   put-reads.Asked,
   put-reads.Learnt,
 ) (braces-at t) braces.Post
-braces-same-length-5 t c = search needs
+braces-same-length-5 t c = c .before .before .before .before .before .before .before .before .before .before .before .interruption .kept .1 .1 .1 .0
 
 braces-same-length-6 : (t : ℕ) → braces-lts.Need-same-length-6 (
   interruption-below t,
@@ -974,7 +974,7 @@ braces-same-length-6 : (t : ℕ) → braces-lts.Need-same-length-6 (
   put-reads.Asked,
   put-reads.Learnt,
 ) (braces-at t) braces.Post
-braces-same-length-6 t c = search needs
+braces-same-length-6 t c = c .before .before .before .before .before .before .before .before .before .before .before .interruption .kept .1 .1 .1 .1 .0
 
 braces-returns-2 : (t : ℕ) → braces-lts.Need-returns-2 (
   interruption-below t,
@@ -1102,7 +1102,7 @@ braces-same-length-7 : (t : ℕ) → braces-lts.Need-same-length-7 (
   put-reads.Asked,
   put-reads.Learnt,
 ) (braces-at t) braces.Post
-braces-same-length-7 t c = search needs
+braces-same-length-7 t c = c .before .before .before .before .before .before .before .before .chain .kept .1 .1 .1 .0 ∙ c .before .before .before .before .before .before .before .before .before .before .before .before .before .before .before .before .before .before .before .before .before .before .before .before .before .interruption .kept .1 .1 .0
 
 braces-same-length-8 : (t : ℕ) → braces-lts.Need-same-length-8 (
   interruption-below t,
@@ -1118,7 +1118,7 @@ braces-same-length-8 : (t : ℕ) → braces-lts.Need-same-length-8 (
   put-reads.Asked,
   put-reads.Learnt,
 ) (braces-at t) braces.Post
-braces-same-length-8 t c = search needs
+braces-same-length-8 t c = c .before .before .before .before .before .before .before .before .chain .kept .1 .1 .1 .1 .0 ∙ c .before .before .before .before .before .before .before .before .before .before .before .before .before .before .before .before .before .before .before .before .before .before .before .before .before .interruption .kept .1 .1 .1 .0
 
 braces-same-length-9 : (t : ℕ) → braces-lts.Need-same-length-9 (
   interruption-below t,
@@ -1134,7 +1134,7 @@ braces-same-length-9 : (t : ℕ) → braces-lts.Need-same-length-9 (
   put-reads.Asked,
   put-reads.Learnt,
 ) (braces-at t) braces.Post
-braces-same-length-9 t c = search needs
+braces-same-length-9 t c = c .before .before .before .before .before .before .before .before .chain .kept .1 .1 .1 .1 .1 .0 ∙ c .before .before .before .before .before .before .before .before .before .before .before .before .before .before .before .before .before .before .before .before .before .before .before .before .before .interruption .kept .1 .1 .1 .1 .0
 
 braces-returns-3 : (t : ℕ) → braces-lts.Need-returns-3 (
   interruption-below t,
@@ -1182,7 +1182,7 @@ braces-same-length-10 : (t : ℕ) → braces-lts.Need-same-length-10 (
   put-reads.Asked,
   put-reads.Learnt,
 ) (braces-at t) braces.Post
-braces-same-length-10 t c = search needs
+braces-same-length-10 t c = c .before .before .before .before .before .before .before .before .before .before .before .chain .kept .1 .1 .1 .0 ∙ c .before .before .before .before .before .before .before .before .before .before .before .before .before .before .before .before .before .before .before .before .before .before .before .before .before .before .before .before .interruption .kept .1 .1 .0
 
 braces-same-length-11 : (t : ℕ) → braces-lts.Need-same-length-11 (
   interruption-below t,
@@ -1198,7 +1198,7 @@ braces-same-length-11 : (t : ℕ) → braces-lts.Need-same-length-11 (
   put-reads.Asked,
   put-reads.Learnt,
 ) (braces-at t) braces.Post
-braces-same-length-11 t c = search needs
+braces-same-length-11 t c = c .before .before .before .before .before .before .before .before .before .before .before .chain .kept .1 .1 .1 .1 .0 ∙ c .before .before .before .before .before .before .before .before .before .before .before .before .before .before .before .before .before .before .before .before .before .before .before .before .before .before .before .before .interruption .kept .1 .1 .1 .0
 
 braces-same-length-12 : (t : ℕ) → braces-lts.Need-same-length-12 (
   interruption-below t,
@@ -1214,7 +1214,7 @@ braces-same-length-12 : (t : ℕ) → braces-lts.Need-same-length-12 (
   put-reads.Asked,
   put-reads.Learnt,
 ) (braces-at t) braces.Post
-braces-same-length-12 t c = search needs
+braces-same-length-12 t c = c .before .before .before .before .before .before .before .before .before .before .before .chain .kept .1 .1 .1 .1 .1 .0 ∙ c .before .before .before .before .before .before .before .before .before .before .before .before .before .before .before .before .before .before .before .before .before .before .before .before .before .before .before .before .interruption .kept .1 .1 .1 .1 .0
 
 braces-returns-4 : (t : ℕ) → braces-lts.Need-returns-4 (
   interruption-below t,
@@ -1446,7 +1446,7 @@ chain-same-length : (t : ℕ) → chain-lts.Need-same-length (
   put-reads.Asked,
   put-reads.Learnt,
 ) (chain-at t) chain.Post
-chain-same-length t c = search needs
+chain-same-length t c = c .before .before .before .before .before .before .before .before .interruption .kept .1 .1 .0
 
 chain-same-length-2 : (t : ℕ) → chain-lts.Need-same-length-2 (
   interruption-below t,
@@ -1464,7 +1464,7 @@ chain-same-length-2 : (t : ℕ) → chain-lts.Need-same-length-2 (
   put-reads.Asked,
   put-reads.Learnt,
 ) (chain-at t) chain.Post
-chain-same-length-2 t c = search needs
+chain-same-length-2 t c = c .before .before .before .before .before .before .before .before .interruption .kept .1 .1 .1 .0
 
 chain-same-length-3 : (t : ℕ) → chain-lts.Need-same-length-3 (
   interruption-below t,
@@ -1482,7 +1482,7 @@ chain-same-length-3 : (t : ℕ) → chain-lts.Need-same-length-3 (
   put-reads.Asked,
   put-reads.Learnt,
 ) (chain-at t) chain.Post
-chain-same-length-3 t c = search needs
+chain-same-length-3 t c = c .before .before .before .before .before .before .before .before .interruption .kept .1 .1 .1 .1 .0
 
 chain-returns : (t : ℕ) → chain-lts.Need-returns (
   interruption-below t,
@@ -1536,7 +1536,7 @@ chain-same-length-4 : (t : ℕ) → chain-lts.Need-same-length-4 (
   put-reads.Asked,
   put-reads.Learnt,
 ) (chain-at t) chain.Post
-chain-same-length-4 t c = search needs
+chain-same-length-4 t c = c .before .before .before .before .before .before .before .before .before .before .before .interruption .kept .1 .1 .0
 
 chain-same-length-5 : (t : ℕ) → chain-lts.Need-same-length-5 (
   interruption-below t,
@@ -1554,7 +1554,7 @@ chain-same-length-5 : (t : ℕ) → chain-lts.Need-same-length-5 (
   put-reads.Asked,
   put-reads.Learnt,
 ) (chain-at t) chain.Post
-chain-same-length-5 t c = search needs
+chain-same-length-5 t c = c .before .before .before .before .before .before .before .before .before .before .before .interruption .kept .1 .1 .1 .0
 
 chain-same-length-6 : (t : ℕ) → chain-lts.Need-same-length-6 (
   interruption-below t,
@@ -1572,7 +1572,7 @@ chain-same-length-6 : (t : ℕ) → chain-lts.Need-same-length-6 (
   put-reads.Asked,
   put-reads.Learnt,
 ) (chain-at t) chain.Post
-chain-same-length-6 t c = search needs
+chain-same-length-6 t c = c .before .before .before .before .before .before .before .before .before .before .before .interruption .kept .1 .1 .1 .1 .0
 
 chain-returns-2 : (t : ℕ) → chain-lts.Need-returns-2 (
   interruption-below t,
@@ -1662,7 +1662,7 @@ chain-same-length-7 : (t : ℕ) → chain-lts.Need-same-length-7 (
   put-reads.Asked,
   put-reads.Learnt,
 ) (chain-at t) chain.Post
-chain-same-length-7 t c = search needs
+chain-same-length-7 t c = c .before .before .before .before .before .before .before .before .before .before .before .before .before .interruption .kept .1 .1 .0
 
 chain-same-length-8 : (t : ℕ) → chain-lts.Need-same-length-8 (
   interruption-below t,
@@ -1680,7 +1680,7 @@ chain-same-length-8 : (t : ℕ) → chain-lts.Need-same-length-8 (
   put-reads.Asked,
   put-reads.Learnt,
 ) (chain-at t) chain.Post
-chain-same-length-8 t c = search needs
+chain-same-length-8 t c = c .before .before .before .before .before .before .before .before .before .before .before .before .before .interruption .kept .1 .1 .1 .0
 
 chain-same-length-9 : (t : ℕ) → chain-lts.Need-same-length-9 (
   interruption-below t,
@@ -1698,7 +1698,7 @@ chain-same-length-9 : (t : ℕ) → chain-lts.Need-same-length-9 (
   put-reads.Asked,
   put-reads.Learnt,
 ) (chain-at t) chain.Post
-chain-same-length-9 t c = search needs
+chain-same-length-9 t c = c .before .before .before .before .before .before .before .before .before .before .before .before .before .interruption .kept .1 .1 .1 .1 .0
 
 chain-returns-3 : (t : ℕ) → chain-lts.Need-returns-3 (
   interruption-below t,
@@ -1806,7 +1806,7 @@ chain-same-length-10 : (t : ℕ) → chain-lts.Need-same-length-10 (
   put-reads.Asked,
   put-reads.Learnt,
 ) (chain-at t) chain.Post
-chain-same-length-10 t c = search needs
+chain-same-length-10 t c = c .before .before .before .before .before .before .before .before .chain .kept .1 .1 .1 .0 ∙ c .before .before .before .before .before .before .before .before .before .before .before .before .before .before .before .before .before .before .before .before .before .before .before .before .before .before .interruption .kept .1 .1 .0
 
 chain-same-length-11 : (t : ℕ) → chain-lts.Need-same-length-11 (
   interruption-below t,
@@ -1824,7 +1824,7 @@ chain-same-length-11 : (t : ℕ) → chain-lts.Need-same-length-11 (
   put-reads.Asked,
   put-reads.Learnt,
 ) (chain-at t) chain.Post
-chain-same-length-11 t c = search needs
+chain-same-length-11 t c = c .before .before .before .before .before .before .before .before .chain .kept .1 .1 .1 .1 .0 ∙ c .before .before .before .before .before .before .before .before .before .before .before .before .before .before .before .before .before .before .before .before .before .before .before .before .before .before .interruption .kept .1 .1 .1 .0
 
 chain-same-length-12 : (t : ℕ) → chain-lts.Need-same-length-12 (
   interruption-below t,
@@ -1842,7 +1842,7 @@ chain-same-length-12 : (t : ℕ) → chain-lts.Need-same-length-12 (
   put-reads.Asked,
   put-reads.Learnt,
 ) (chain-at t) chain.Post
-chain-same-length-12 t c = search needs
+chain-same-length-12 t c = c .before .before .before .before .before .before .before .before .chain .kept .1 .1 .1 .1 .1 .0 ∙ c .before .before .before .before .before .before .before .before .before .before .before .before .before .before .before .before .before .before .before .before .before .before .before .before .before .before .interruption .kept .1 .1 .1 .1 .0
 
 chain-returns-4 : (t : ℕ) → chain-lts.Need-returns-4 (
   interruption-below t,
@@ -2116,7 +2116,7 @@ event-same-length : (t : ℕ) → event-lts.Need-same-length (
   item-below t,
   item.Post,
 ) (event-at t) event.Post
-event-same-length t c = search needs
+event-same-length t c = c .before .before .before .before .before .before .before .before .put .kept .0
 
 event-same-length-2 : (t : ℕ) → event-lts.Need-same-length-2 (
   byte-at-reads.Asked,
@@ -2130,7 +2130,7 @@ event-same-length-2 : (t : ℕ) → event-lts.Need-same-length-2 (
   item-below t,
   item.Post,
 ) (event-at t) event.Post
-event-same-length-2 t c = search needs
+event-same-length-2 t c = c .before .before .before .before .before .before .before .before .put .kept .1 .0
 
 event-same-length-3 : (t : ℕ) → event-lts.Need-same-length-3 (
   byte-at-reads.Asked,
@@ -2144,7 +2144,7 @@ event-same-length-3 : (t : ℕ) → event-lts.Need-same-length-3 (
   item-below t,
   item.Post,
 ) (event-at t) event.Post
-event-same-length-3 t c = search needs
+event-same-length-3 t c = c .before .before .before .before .before .before .before .before .put .kept .1 .1 .0
 
 event-returns-2 : (t : ℕ) → event-lts.Need-returns-2 (
   byte-at-reads.Asked,
@@ -2228,7 +2228,7 @@ event-same-length-4 : (t : ℕ) → event-lts.Need-same-length-4 (
   item-below t,
   item.Post,
 ) (event-at t) event.Post
-event-same-length-4 t c = search needs
+event-same-length-4 t c = c .before .before .before .before .before .before .before .before .item .kept .1 .1 .0 ∙ c .before .before .before .before .before .before .before .before .before .before .before .before .before .before .before .before .before .before .before .before .put .kept .0
 
 event-same-length-5 : (t : ℕ) → event-lts.Need-same-length-5 (
   byte-at-reads.Asked,
@@ -2242,7 +2242,7 @@ event-same-length-5 : (t : ℕ) → event-lts.Need-same-length-5 (
   item-below t,
   item.Post,
 ) (event-at t) event.Post
-event-same-length-5 t c = search needs
+event-same-length-5 t c = c .before .before .before .before .before .before .before .before .item .kept .1 .1 .1 .0 ∙ c .before .before .before .before .before .before .before .before .before .before .before .before .before .before .before .before .before .before .before .before .put .kept .1 .0
 
 event-same-length-6 : (t : ℕ) → event-lts.Need-same-length-6 (
   byte-at-reads.Asked,
@@ -2256,7 +2256,7 @@ event-same-length-6 : (t : ℕ) → event-lts.Need-same-length-6 (
   item-below t,
   item.Post,
 ) (event-at t) event.Post
-event-same-length-6 t c = search needs
+event-same-length-6 t c = c .before .before .before .before .before .before .before .before .item .kept .1 .1 .1 .1 .0 ∙ c .before .before .before .before .before .before .before .before .before .before .before .before .before .before .before .before .before .before .before .before .put .kept .1 .1 .0
 
 event-returns-3 : (t : ℕ) → event-lts.Need-returns-3 (
   byte-at-reads.Asked,
@@ -2312,7 +2312,7 @@ event-same-length-7 : (t : ℕ) → event-lts.Need-same-length-7 (
   item-below t,
   item.Post,
 ) (event-at t) event.Post
-event-same-length-7 t c = search needs
+event-same-length-7 t c = c .before .before .before .before .before .before .put2 .kept .0 ∙ c .before .before .before .before .before .before .before .before .before .before .before .before .before .before .before .before .before .before .before .item .kept .1 .1 .0 ∙ c .before .before .before .before .before .before .before .before .before .before .before .before .before .before .before .before .before .before .before .before .before .before .before .before .before .before .before .before .before .before .before .put .kept .0
 
 event-same-length-8 : (t : ℕ) → event-lts.Need-same-length-8 (
   byte-at-reads.Asked,
@@ -2326,7 +2326,7 @@ event-same-length-8 : (t : ℕ) → event-lts.Need-same-length-8 (
   item-below t,
   item.Post,
 ) (event-at t) event.Post
-event-same-length-8 t c = search needs
+event-same-length-8 t c = c .before .before .before .before .before .before .put2 .kept .1 .0 ∙ c .before .before .before .before .before .before .before .before .before .before .before .before .before .before .before .before .before .before .before .item .kept .1 .1 .1 .0 ∙ c .before .before .before .before .before .before .before .before .before .before .before .before .before .before .before .before .before .before .before .before .before .before .before .before .before .before .before .before .before .before .before .put .kept .1 .0
 
 event-same-length-9 : (t : ℕ) → event-lts.Need-same-length-9 (
   byte-at-reads.Asked,
@@ -2340,7 +2340,7 @@ event-same-length-9 : (t : ℕ) → event-lts.Need-same-length-9 (
   item-below t,
   item.Post,
 ) (event-at t) event.Post
-event-same-length-9 t c = search needs
+event-same-length-9 t c = c .before .before .before .before .before .before .put2 .kept .1 .1 .0 ∙ c .before .before .before .before .before .before .before .before .before .before .before .before .before .before .before .before .before .before .before .item .kept .1 .1 .1 .1 .0 ∙ c .before .before .before .before .before .before .before .before .before .before .before .before .before .before .before .before .before .before .before .before .before .before .before .before .before .before .before .before .before .before .before .put .kept .1 .1 .0
 
 event-returns-4 : (t : ℕ) → event-lts.Need-returns-4 (
   byte-at-reads.Asked,
@@ -2394,7 +2394,7 @@ interruption-same-length : (t : ℕ) → interruption-lts.Need-same-length (
   event-below t,
   event.Post,
 ) (interruption-at t) interruption.Post
-interruption-same-length t c = search needs
+interruption-same-length t c = c .before .before .before .before .before .before .braces .kept .1 .1 .0
 
 interruption-same-length-2 : (t : ℕ) → interruption-lts.Need-same-length-2 (
   is-reads.Asked,
@@ -2404,7 +2404,7 @@ interruption-same-length-2 : (t : ℕ) → interruption-lts.Need-same-length-2 (
   event-below t,
   event.Post,
 ) (interruption-at t) interruption.Post
-interruption-same-length-2 t c = search needs
+interruption-same-length-2 t c = c .before .before .before .before .before .before .braces .kept .1 .1 .1 .0
 
 interruption-same-length-3 : (t : ℕ) → interruption-lts.Need-same-length-3 (
   is-reads.Asked,
@@ -2414,7 +2414,7 @@ interruption-same-length-3 : (t : ℕ) → interruption-lts.Need-same-length-3 (
   event-below t,
   event.Post,
 ) (interruption-at t) interruption.Post
-interruption-same-length-3 t c = search needs
+interruption-same-length-3 t c = c .before .before .before .before .before .before .braces .kept .1 .1 .1 .1 .0
 
 interruption-returns : (t : ℕ) → interruption-lts.Need-returns (
   is-reads.Asked,
@@ -2434,7 +2434,7 @@ interruption-same-length-4 : (t : ℕ) → interruption-lts.Need-same-length-4 (
   event-below t,
   event.Post,
 ) (interruption-at t) interruption.Post
-interruption-same-length-4 t c = search needs
+interruption-same-length-4 t c = c .before .before .before .before .before .before .event .kept .1 .1 .0
 
 interruption-same-length-5 : (t : ℕ) → interruption-lts.Need-same-length-5 (
   is-reads.Asked,
@@ -2444,7 +2444,7 @@ interruption-same-length-5 : (t : ℕ) → interruption-lts.Need-same-length-5 (
   event-below t,
   event.Post,
 ) (interruption-at t) interruption.Post
-interruption-same-length-5 t c = search needs
+interruption-same-length-5 t c = c .before .before .before .before .before .before .event .kept .1 .1 .1 .0
 
 interruption-same-length-6 : (t : ℕ) → interruption-lts.Need-same-length-6 (
   is-reads.Asked,
@@ -2454,7 +2454,7 @@ interruption-same-length-6 : (t : ℕ) → interruption-lts.Need-same-length-6 (
   event-below t,
   event.Post,
 ) (interruption-at t) interruption.Post
-interruption-same-length-6 t c = search needs
+interruption-same-length-6 t c = c .before .before .before .before .before .before .event .kept .1 .1 .1 .1 .0
 
 interruption-returns-2 : (t : ℕ) → interruption-lts.Need-returns-2 (
   is-reads.Asked,
@@ -2512,7 +2512,7 @@ item-same-length : (t : ℕ) → item-lts.Need-same-length (
   put-reads.Asked,
   put-reads.Learnt,
 ) (item-at t) item.Post
-item-same-length t c = search needs
+item-same-length t c = c .before .before .before .before .before .before .before .before .starred .kept .1 .1 .0
 
 item-same-length-2 : (t : ℕ) → item-lts.Need-same-length-2 (
   starred-below t,
@@ -2524,7 +2524,7 @@ item-same-length-2 : (t : ℕ) → item-lts.Need-same-length-2 (
   put-reads.Asked,
   put-reads.Learnt,
 ) (item-at t) item.Post
-item-same-length-2 t c = search needs
+item-same-length-2 t c = c .before .before .before .before .before .before .before .before .starred .kept .1 .1 .1 .0
 
 item-same-length-3 : (t : ℕ) → item-lts.Need-same-length-3 (
   starred-below t,
@@ -2536,7 +2536,7 @@ item-same-length-3 : (t : ℕ) → item-lts.Need-same-length-3 (
   put-reads.Asked,
   put-reads.Learnt,
 ) (item-at t) item.Post
-item-same-length-3 t c = search needs
+item-same-length-3 t c = c .before .before .before .before .before .before .before .before .starred .kept .1 .1 .1 .1 .0
 
 item-returns : (t : ℕ) → item-lts.Need-returns (
   starred-below t,
@@ -2572,7 +2572,7 @@ item-same-length-4 : (t : ℕ) → item-lts.Need-same-length-4 (
   put-reads.Asked,
   put-reads.Learnt,
 ) (item-at t) item.Post
-item-same-length-4 t c = search needs
+item-same-length-4 t c = c .before .before .before .before .before .before .before .before .before .before .before .starred .kept .1 .1 .0
 
 item-same-length-5 : (t : ℕ) → item-lts.Need-same-length-5 (
   starred-below t,
@@ -2584,7 +2584,7 @@ item-same-length-5 : (t : ℕ) → item-lts.Need-same-length-5 (
   put-reads.Asked,
   put-reads.Learnt,
 ) (item-at t) item.Post
-item-same-length-5 t c = search needs
+item-same-length-5 t c = c .before .before .before .before .before .before .before .before .before .before .before .starred .kept .1 .1 .1 .0
 
 item-same-length-6 : (t : ℕ) → item-lts.Need-same-length-6 (
   starred-below t,
@@ -2596,7 +2596,7 @@ item-same-length-6 : (t : ℕ) → item-lts.Need-same-length-6 (
   put-reads.Asked,
   put-reads.Learnt,
 ) (item-at t) item.Post
-item-same-length-6 t c = search needs
+item-same-length-6 t c = c .before .before .before .before .before .before .before .before .before .before .before .starred .kept .1 .1 .1 .1 .0
 
 item-returns-2 : (t : ℕ) → item-lts.Need-returns-2 (
   starred-below t,
@@ -2668,7 +2668,7 @@ item-same-length-7 : (t : ℕ) → item-lts.Need-same-length-7 (
   put-reads.Asked,
   put-reads.Learnt,
 ) (item-at t) item.Post
-item-same-length-7 t c = search needs
+item-same-length-7 t c = c .before .before .before .before .before .before .before .before .interruption .kept .1 .1 .0 ∙ c .before .before .before .before .before .before .before .before .before .before .before .before .before .before .before .before .before .before .before .before .before .before .before .starred .kept .1 .1 .0
 
 item-same-length-8 : (t : ℕ) → item-lts.Need-same-length-8 (
   starred-below t,
@@ -2680,7 +2680,7 @@ item-same-length-8 : (t : ℕ) → item-lts.Need-same-length-8 (
   put-reads.Asked,
   put-reads.Learnt,
 ) (item-at t) item.Post
-item-same-length-8 t c = search needs
+item-same-length-8 t c = c .before .before .before .before .before .before .before .before .interruption .kept .1 .1 .1 .0 ∙ c .before .before .before .before .before .before .before .before .before .before .before .before .before .before .before .before .before .before .before .before .before .before .before .starred .kept .1 .1 .1 .0
 
 item-same-length-9 : (t : ℕ) → item-lts.Need-same-length-9 (
   starred-below t,
@@ -2692,7 +2692,7 @@ item-same-length-9 : (t : ℕ) → item-lts.Need-same-length-9 (
   put-reads.Asked,
   put-reads.Learnt,
 ) (item-at t) item.Post
-item-same-length-9 t c = search needs
+item-same-length-9 t c = c .before .before .before .before .before .before .before .before .interruption .kept .1 .1 .1 .1 .0 ∙ c .before .before .before .before .before .before .before .before .before .before .before .before .before .before .before .before .before .before .before .before .before .before .before .starred .kept .1 .1 .1 .1 .0
 
 item-returns-3 : (t : ℕ) → item-lts.Need-returns-3 (
   starred-below t,
@@ -2752,7 +2752,7 @@ item-same-length-10 : (t : ℕ) → item-lts.Need-same-length-10 (
   put-reads.Asked,
   put-reads.Learnt,
 ) (item-at t) item.Post
-item-same-length-10 t c = search needs
+item-same-length-10 t c = c .before .before .before .before .before .before .put .kept .0 ∙ c .before .before .before .before .before .before .before .before .before .before .before .before .before .before .before .before .before .before .before .interruption .kept .1 .1 .0 ∙ c .before .before .before .before .before .before .before .before .before .before .before .before .before .before .before .before .before .before .before .before .before .before .before .before .before .before .before .before .before .before .before .before .before .before .starred .kept .1 .1 .0
 
 item-same-length-11 : (t : ℕ) → item-lts.Need-same-length-11 (
   starred-below t,
@@ -2764,7 +2764,7 @@ item-same-length-11 : (t : ℕ) → item-lts.Need-same-length-11 (
   put-reads.Asked,
   put-reads.Learnt,
 ) (item-at t) item.Post
-item-same-length-11 t c = search needs
+item-same-length-11 t c = c .before .before .before .before .before .before .put .kept .1 .0 ∙ c .before .before .before .before .before .before .before .before .before .before .before .before .before .before .before .before .before .before .before .interruption .kept .1 .1 .1 .0 ∙ c .before .before .before .before .before .before .before .before .before .before .before .before .before .before .before .before .before .before .before .before .before .before .before .before .before .before .before .before .before .before .before .before .before .before .starred .kept .1 .1 .1 .0
 
 item-same-length-12 : (t : ℕ) → item-lts.Need-same-length-12 (
   starred-below t,
@@ -2776,7 +2776,7 @@ item-same-length-12 : (t : ℕ) → item-lts.Need-same-length-12 (
   put-reads.Asked,
   put-reads.Learnt,
 ) (item-at t) item.Post
-item-same-length-12 t c = search needs
+item-same-length-12 t c = c .before .before .before .before .before .before .put .kept .1 .1 .0 ∙ c .before .before .before .before .before .before .before .before .before .before .before .before .before .before .before .before .before .before .before .interruption .kept .1 .1 .1 .1 .0 ∙ c .before .before .before .before .before .before .before .before .before .before .before .before .before .before .before .before .before .before .before .before .before .before .before .before .before .before .before .before .before .before .before .before .before .before .starred .kept .1 .1 .1 .1 .0
 
 item-returns-4 : (t : ℕ) → item-lts.Need-returns-4 (
   starred-below t,
@@ -2836,7 +2836,7 @@ sequence-same-length : (t : ℕ) → sequence-lts.Need-same-length (
   put-reads.Asked,
   put-reads.Learnt,
 ) (sequence-at t) sequence.Post
-sequence-same-length t c = search needs
+sequence-same-length t c = c .before .before .before .before .before .before .before .before .item .kept .1 .1 .0
 
 sequence-same-length-2 : (t : ℕ) → sequence-lts.Need-same-length-2 (
   item-below t,
@@ -2848,7 +2848,7 @@ sequence-same-length-2 : (t : ℕ) → sequence-lts.Need-same-length-2 (
   put-reads.Asked,
   put-reads.Learnt,
 ) (sequence-at t) sequence.Post
-sequence-same-length-2 t c = search needs
+sequence-same-length-2 t c = c .before .before .before .before .before .before .before .before .item .kept .1 .1 .1 .0
 
 sequence-same-length-3 : (t : ℕ) → sequence-lts.Need-same-length-3 (
   item-below t,
@@ -2860,7 +2860,7 @@ sequence-same-length-3 : (t : ℕ) → sequence-lts.Need-same-length-3 (
   put-reads.Asked,
   put-reads.Learnt,
 ) (sequence-at t) sequence.Post
-sequence-same-length-3 t c = search needs
+sequence-same-length-3 t c = c .before .before .before .before .before .before .before .before .item .kept .1 .1 .1 .1 .0
 
 sequence-returns : (t : ℕ) → sequence-lts.Need-returns (
   item-below t,
@@ -2896,7 +2896,7 @@ sequence-same-length-4 : (t : ℕ) → sequence-lts.Need-same-length-4 (
   put-reads.Asked,
   put-reads.Learnt,
 ) (sequence-at t) sequence.Post
-sequence-same-length-4 t c = search needs
+sequence-same-length-4 t c = c .before .before .before .before .before .before .before .before .before .before .before .item .kept .1 .1 .0
 
 sequence-same-length-5 : (t : ℕ) → sequence-lts.Need-same-length-5 (
   item-below t,
@@ -2908,7 +2908,7 @@ sequence-same-length-5 : (t : ℕ) → sequence-lts.Need-same-length-5 (
   put-reads.Asked,
   put-reads.Learnt,
 ) (sequence-at t) sequence.Post
-sequence-same-length-5 t c = search needs
+sequence-same-length-5 t c = c .before .before .before .before .before .before .before .before .before .before .before .item .kept .1 .1 .1 .0
 
 sequence-same-length-6 : (t : ℕ) → sequence-lts.Need-same-length-6 (
   item-below t,
@@ -2920,7 +2920,7 @@ sequence-same-length-6 : (t : ℕ) → sequence-lts.Need-same-length-6 (
   put-reads.Asked,
   put-reads.Learnt,
 ) (sequence-at t) sequence.Post
-sequence-same-length-6 t c = search needs
+sequence-same-length-6 t c = c .before .before .before .before .before .before .before .before .before .before .before .item .kept .1 .1 .1 .1 .0
 
 sequence-returns-2 : (t : ℕ) → sequence-lts.Need-returns-2 (
   item-below t,
@@ -2980,7 +2980,7 @@ sequence-same-length-7 : (t : ℕ) → sequence-lts.Need-same-length-7 (
   put-reads.Asked,
   put-reads.Learnt,
 ) (sequence-at t) sequence.Post
-sequence-same-length-7 t c = search needs
+sequence-same-length-7 t c = c .before .before .before .before .before .before .before .before .sequence .kept .1 .1 .0 ∙ c .before .before .before .before .before .before .before .before .before .before .before .before .before .before .before .before .before .before .before .before .before .before .before .item .kept .1 .1 .0
 
 sequence-same-length-8 : (t : ℕ) → sequence-lts.Need-same-length-8 (
   item-below t,
@@ -2992,7 +2992,7 @@ sequence-same-length-8 : (t : ℕ) → sequence-lts.Need-same-length-8 (
   put-reads.Asked,
   put-reads.Learnt,
 ) (sequence-at t) sequence.Post
-sequence-same-length-8 t c = search needs
+sequence-same-length-8 t c = c .before .before .before .before .before .before .before .before .sequence .kept .1 .1 .1 .0 ∙ c .before .before .before .before .before .before .before .before .before .before .before .before .before .before .before .before .before .before .before .before .before .before .before .item .kept .1 .1 .1 .0
 
 sequence-same-length-9 : (t : ℕ) → sequence-lts.Need-same-length-9 (
   item-below t,
@@ -3004,7 +3004,7 @@ sequence-same-length-9 : (t : ℕ) → sequence-lts.Need-same-length-9 (
   put-reads.Asked,
   put-reads.Learnt,
 ) (sequence-at t) sequence.Post
-sequence-same-length-9 t c = search needs
+sequence-same-length-9 t c = c .before .before .before .before .before .before .before .before .sequence .kept .1 .1 .1 .1 .0 ∙ c .before .before .before .before .before .before .before .before .before .before .before .before .before .before .before .before .before .before .before .before .before .before .before .item .kept .1 .1 .1 .1 .0
 
 sequence-returns-3 : (t : ℕ) → sequence-lts.Need-returns-3 (
   item-below t,
@@ -3064,7 +3064,7 @@ sequence-same-length-10 : (t : ℕ) → sequence-lts.Need-same-length-10 (
   put-reads.Asked,
   put-reads.Learnt,
 ) (sequence-at t) sequence.Post
-sequence-same-length-10 t c = search needs
+sequence-same-length-10 t c = c .before .before .before .before .before .before .put .kept .0 ∙ c .before .before .before .before .before .before .before .before .before .before .before .before .before .before .before .before .before .before .before .sequence .kept .1 .1 .0 ∙ c .before .before .before .before .before .before .before .before .before .before .before .before .before .before .before .before .before .before .before .before .before .before .before .before .before .before .before .before .before .before .before .before .before .before .item .kept .1 .1 .0
 
 sequence-same-length-11 : (t : ℕ) → sequence-lts.Need-same-length-11 (
   item-below t,
@@ -3076,7 +3076,7 @@ sequence-same-length-11 : (t : ℕ) → sequence-lts.Need-same-length-11 (
   put-reads.Asked,
   put-reads.Learnt,
 ) (sequence-at t) sequence.Post
-sequence-same-length-11 t c = search needs
+sequence-same-length-11 t c = c .before .before .before .before .before .before .put .kept .1 .0 ∙ c .before .before .before .before .before .before .before .before .before .before .before .before .before .before .before .before .before .before .before .sequence .kept .1 .1 .1 .0 ∙ c .before .before .before .before .before .before .before .before .before .before .before .before .before .before .before .before .before .before .before .before .before .before .before .before .before .before .before .before .before .before .before .before .before .before .item .kept .1 .1 .1 .0
 
 sequence-same-length-12 : (t : ℕ) → sequence-lts.Need-same-length-12 (
   item-below t,
@@ -3088,7 +3088,7 @@ sequence-same-length-12 : (t : ℕ) → sequence-lts.Need-same-length-12 (
   put-reads.Asked,
   put-reads.Learnt,
 ) (sequence-at t) sequence.Post
-sequence-same-length-12 t c = search needs
+sequence-same-length-12 t c = c .before .before .before .before .before .before .put .kept .1 .1 .0 ∙ c .before .before .before .before .before .before .before .before .before .before .before .before .before .before .before .before .before .before .before .sequence .kept .1 .1 .1 .1 .0 ∙ c .before .before .before .before .before .before .before .before .before .before .before .before .before .before .before .before .before .before .before .before .before .before .before .before .before .before .before .before .before .before .before .before .before .before .item .kept .1 .1 .1 .1 .0
 
 sequence-returns-4 : (t : ℕ) → sequence-lts.Need-returns-4 (
   item-below t,
@@ -3140,7 +3140,7 @@ starred-same-length : (t : ℕ) → starred-lts.Need-same-length (
   put-reads.Asked,
   put-reads.Learnt,
 ) (starred-at t) starred.Post
-starred-same-length t c = search needs
+starred-same-length t c = c .before .before .before .before .before .before .before .before .atom .kept .1 .1 .0
 
 starred-same-length-2 : (t : ℕ) → starred-lts.Need-same-length-2 (
   atom-below t,
@@ -3150,7 +3150,7 @@ starred-same-length-2 : (t : ℕ) → starred-lts.Need-same-length-2 (
   put-reads.Asked,
   put-reads.Learnt,
 ) (starred-at t) starred.Post
-starred-same-length-2 t c = search needs
+starred-same-length-2 t c = c .before .before .before .before .before .before .before .before .atom .kept .1 .1 .1 .0
 
 starred-same-length-3 : (t : ℕ) → starred-lts.Need-same-length-3 (
   atom-below t,
@@ -3160,7 +3160,7 @@ starred-same-length-3 : (t : ℕ) → starred-lts.Need-same-length-3 (
   put-reads.Asked,
   put-reads.Learnt,
 ) (starred-at t) starred.Post
-starred-same-length-3 t c = search needs
+starred-same-length-3 t c = c .before .before .before .before .before .before .before .before .atom .kept .1 .1 .1 .1 .0
 
 starred-returns : (t : ℕ) → starred-lts.Need-returns (
   atom-below t,
@@ -3190,7 +3190,7 @@ starred-same-length-4 : (t : ℕ) → starred-lts.Need-same-length-4 (
   put-reads.Asked,
   put-reads.Learnt,
 ) (starred-at t) starred.Post
-starred-same-length-4 t c = search needs
+starred-same-length-4 t c = c .before .before .before .before .before .before .before .before .before .before .before .atom .kept .1 .1 .0
 
 starred-same-length-5 : (t : ℕ) → starred-lts.Need-same-length-5 (
   atom-below t,
@@ -3200,7 +3200,7 @@ starred-same-length-5 : (t : ℕ) → starred-lts.Need-same-length-5 (
   put-reads.Asked,
   put-reads.Learnt,
 ) (starred-at t) starred.Post
-starred-same-length-5 t c = search needs
+starred-same-length-5 t c = c .before .before .before .before .before .before .before .before .before .before .before .atom .kept .1 .1 .1 .0
 
 starred-same-length-6 : (t : ℕ) → starred-lts.Need-same-length-6 (
   atom-below t,
@@ -3210,7 +3210,7 @@ starred-same-length-6 : (t : ℕ) → starred-lts.Need-same-length-6 (
   put-reads.Asked,
   put-reads.Learnt,
 ) (starred-at t) starred.Post
-starred-same-length-6 t c = search needs
+starred-same-length-6 t c = c .before .before .before .before .before .before .before .before .before .before .before .atom .kept .1 .1 .1 .1 .0
 
 starred-returns-2 : (t : ℕ) → starred-lts.Need-returns-2 (
   atom-below t,
@@ -3260,7 +3260,7 @@ starred-same-length-7 : (t : ℕ) → starred-lts.Need-same-length-7 (
   put-reads.Asked,
   put-reads.Learnt,
 ) (starred-at t) starred.Post
-starred-same-length-7 t c = search needs
+starred-same-length-7 t c = c .before .before .before .before .before .before .put .kept .0 ∙ c .before .before .before .before .before .before .before .before .before .before .before .before .before .before .before .before .before .before .before .before .before .atom .kept .1 .1 .0
 
 starred-same-length-8 : (t : ℕ) → starred-lts.Need-same-length-8 (
   atom-below t,
@@ -3270,7 +3270,7 @@ starred-same-length-8 : (t : ℕ) → starred-lts.Need-same-length-8 (
   put-reads.Asked,
   put-reads.Learnt,
 ) (starred-at t) starred.Post
-starred-same-length-8 t c = search needs
+starred-same-length-8 t c = c .before .before .before .before .before .before .put .kept .1 .0 ∙ c .before .before .before .before .before .before .before .before .before .before .before .before .before .before .before .before .before .before .before .before .before .atom .kept .1 .1 .1 .0
 
 starred-same-length-9 : (t : ℕ) → starred-lts.Need-same-length-9 (
   atom-below t,
@@ -3280,7 +3280,7 @@ starred-same-length-9 : (t : ℕ) → starred-lts.Need-same-length-9 (
   put-reads.Asked,
   put-reads.Learnt,
 ) (starred-at t) starred.Post
-starred-same-length-9 t c = search needs
+starred-same-length-9 t c = c .before .before .before .before .before .before .put .kept .1 .1 .0 ∙ c .before .before .before .before .before .before .before .before .before .before .before .before .before .before .before .before .before .before .before .before .before .atom .kept .1 .1 .1 .1 .0
 
 starred-returns-3 : (t : ℕ) → starred-lts.Need-returns-3 (
   atom-below t,
