@@ -1,14 +1,14 @@
 -- Bit lists: their lengths, their parts, and the numbers they write. Each law is over the width: a part of the bits of a number is the bits of its
 -- quotient, and the bits of two numbers side by side are those of one. Assumes nothing.
-use mathlib.Core.Path.{_≡_, refl, sym, ap, ap₂, _∙_, subst}
+use mathlib.Core.Path.{_≡_, refl, sym, ap, ap₂, _∙_}
 use mathlib.Core.List.{List, [], _∷_, _++_, append-assoc}
-use Prim.Native.Nat.{ℕ, zero, suc, _+_, _-_, _*_, _/_, _%_, _^_, _≤_, _<_}
-use native.Mathlib.Nat.{add-zero, zero-add, suc-add, add-assoc, add-comm, mul-assoc, mul-comm, add-mul, pow-suc, le-of-suc-le-suc, not-suc-le-zero, mod-eq-of-lt, mul-add-div-right, mul-add-mod-self-right}
-use native.Mathlib.Numerals.{add-one, one-add}
+use Prim.Native.Nat.{ℕ, zero, suc, _+_, _*_, _/_, _%_, _^_, _<_}
+use native.Mathlib.Nat.{zero-add, suc-add, add-assoc, add-comm, mul-assoc, mul-comm, add-mul, pow-suc, mul-add-div-right, mul-add-mod-self-right}
+use native.Mathlib.Numerals.{one-add}
 use native.Mathlib.Omega.{arith}
 use lib.ListN.{length, take, drop, length-append, take-append-drop}
-use lib.Seq.{drop-at, drop-nil, drop-drop, take-append-le, drop-append-le}
-use lib.Pow.{pow-pos, pow-add, shr-shr, high, low, mod-pow-add}
+use lib.Seq.{drop-at, drop-nil, drop-drop}
+use lib.Pow.{pow-pos, shr-shr, high, mod-pow-add}
 use Rattle.paper.specs.Lists.{gather}
 use Rattle.paper.specs.Table.{bits}
 use Rattle.paper.specs.IsTable.{bitsOf, numberFrom}

@@ -4,3 +4,4 @@ pub mod Windows
 pub mod Puts
 pub mod Unique
 pub mod Runs
+pub mod Packed

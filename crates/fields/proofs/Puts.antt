@@ -1,6 +1,6 @@
 -- A byte with one bit changed, and a field written bit by bit. What stands above, at and below the changed bit is told apart by quotients
 -- (`put-above`, `put-same`, `put-below`); one law over the width then says which bits a number has. Assumes nothing.
-use mathlib.Core.Path.{_≡_, refl, sym, ap, ap₂, _∙_, subst}
+use mathlib.Core.Path.{_≡_, sym, ap, ap₂, _∙_, subst}
 use mathlib.Core.Logic.{_⊎_, inl, inr}
 use mathlib.Core.List.{List, [], _∷_, _++_}
 use Prim.Native.Nat.{ℕ, zero, suc, _+_, _-_, _*_, _/_, _%_, _^_, _≤_, _<_}

@@ -3,11 +3,10 @@
 use mathlib.Core.Path.{_≡_, refl, sym, ap, ap₂, _∙_, subst}
 use mathlib.Core.List.{List, [], _∷_, _++_, append-assoc}
 use Prim.Native.Nat.{ℕ, zero, suc, _+_, _-_, _*_, _/_, _%_, _^_, _≤_, _<_}
-use native.Mathlib.Nat.{one-mul, zero-add, add-zero}
-use native.Mathlib.Numerals.{add-one}
+use native.Mathlib.Nat.{one-mul, add-zero}
 use native.Mathlib.Omega.{arith}
-use lib.ListN.{length, getD, take, drop, replicate, length-append, length-drop, length-replicate, length-take}
-use lib.Seq.{drop-at, drop-cons, drop-drop, take-append-le, drop-append-le}
+use lib.ListN.{length, getD, take, drop, replicate, length-append, length-drop, length-replicate}
+use lib.Seq.{drop-cons, drop-drop, take-append-le, drop-append-le}
 use lib.Pow.{pow-pos, shl-exact, shr-shr}
 use lib.Dec.{lit<, lit≤}
 use lib.Bits.{bitAnd, bitOr, and-mask, or-shifted}

@@ -1,14 +1,14 @@
 -- Each wrong part makes No. 19, and where none is wrong the bytes are a table. `isTable` is one chain of `||`, taken apart from its end.
 -- Assumes nothing.
-use Prim.Native.Nat.{ℕ, suc, _+_, _*_, _/_, _-_, _≤_, _<_}
-use mathlib.Core.Path.{_≡_, refl, sym, ap, ap₂, _∙_}
+use Prim.Native.Nat.{ℕ, _+_, _*_, _/_, _-_, _≤_, _<_}
+use mathlib.Core.Path.{_≡_, sym, ap, ap₂, _∙_}
 use mathlib.Core.Bool.{Bool, true, false, not, _&&_, _||_, or-true}
 use mathlib.Core.Logic.{_⊎_, inl, inr}
 use mathlib.Core.List.{List}
 use native.Mathlib.Omega.{arith}
 use borrow.Author.Tests.{eq-eqb, ne-eqb, le-leb, leb-true, not-true}
 use lib.Dec.{eqb, leb}
-use lib.ListN.{length, take, drop, length-drop}
+use lib.ListN.{length, drop, length-drop}
 use lib.Seq.{take-all}
 use Rattle.paper.specs.IsTable.{bitsOf, numberFrom, field, layout, moduleCount, eventCount, stateCount, bitCount, wrongLayout, wrongCount, wrongLength, ascend, wrongName, wrongNext, wrongZeros, wrongEvent, wrongStart, wrongPadding, isTable}
 use Rattle.fields.proofs.Bits.{bitsOf-length}

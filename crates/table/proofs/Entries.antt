@@ -1,10 +1,10 @@
 -- An entry read as one number passes the code's test exactly when the entry's fields pass those of No. 19. The number is possible bit, next state and
 -- orders side by side (`field-add`), so it is zero exactly when all three are, and its head tells the first two. Assumes nothing.
-use Prim.Native.Nat.{ℕ, zero, suc, _+_, _-_, _*_, _/_, _%_, _^_, _<_, _≤_}
-use mathlib.Core.Path.{_≡_, refl, sym, ap, ap₂, _∙_, subst}
-use mathlib.Core.Bool.{Bool, true, false, cond, not, _&&_, _||_, and-true, and-false}
+use Prim.Native.Nat.{ℕ, zero, suc, _+_, _*_, _/_, _%_, _^_, _<_, _≤_}
+use mathlib.Core.Path.{_≡_, refl, sym, ap, ap₂, _∙_}
+use mathlib.Core.Bool.{Bool, true, false, cond, _&&_, _||_, and-true, and-false}
 use mathlib.Core.List.{List}
-use native.Mathlib.Nat.{mul-le-mul-right, lt-of-lt-of-le}
+use native.Mathlib.Nat.{mul-le-mul-right, mul-one, zero-div, lt-of-lt-of-le}
 use native.Mathlib.Omega.{arith}
 use borrow.Author.Tests.{lt-ltb, le-ltb, ne-eqb}
 use lib.Dec.{eqb, ltb, lit<, eqb·suc-zero}
@@ -13,7 +13,7 @@ use lib.Pow.{high, pow-pos, pow-mono}
 use Rattle.paper.specs.Lists.{every}
 use Rattle.paper.specs.IsTable.{field}
 use Rattle.fields.proofs.Fields.{field-add, field-lt}
-use Rattle.table.specs.Check.{nextOr}
+use Rattle.table.specs.Check.{nextOf}
 
 -- ---- the tests on numbers
 
@@ -34,6 +34,29 @@ eqb-sum (suc a) b c h =
     some m e = omega arith
 
 -- ---- the code's test of an entry: possible bit p, next state n, orders o in d bits
+
+-- with the case of an entry of zeros apart
+abbrev nextOr : (entry down blank : ℕ) → ℕ
+nextOr entry down blank = cond (eqb entry 0) blank ((entry / 2 ^ down + 512) % 1024)
+
+zeros-pass : (e d : ℕ) → e < 67108864 → nextOf e d 67108863 ≡ nextOr e d 0
+zeros-pass zero d h = times-zero ((0 / 2 ^ d + 512) % 1024)
+  where
+    times-zero : (x : ℕ) → x * ((0 + 67108863) / 67108864) ≡ 0
+    times-zero x = omega arith
+zeros-pass (suc e) d h =
+    let f : (suc e + 67108863) / 67108864 ≡ 1 = omega arith in
+    ap (λ (n : ℕ). (suc e / 2 ^ d + 512) % 1024 * n) f ∙ mul-one ((suc e / 2 ^ d + 512) % 1024)
+    ∙ ap (λ (b : Bool). cond b 0 ((suc e / 2 ^ d + 512) % 1024)) (sym (eqb·suc-zero e))
+
+zeros-fail : (e d : ℕ) → e < 67108864 → nextOf e d 67108864 ≡ nextOr e d 512
+zeros-fail e d h =
+    let f : (e + 67108864) / 67108864 ≡ 1 = omega arith in
+    ap (λ (n : ℕ). (e / 2 ^ d + 512) % 1024 * n) f ∙ mul-one ((e / 2 ^ d + 512) % 1024) ∙ zero-is e
+  where
+    zero-is : (e : ℕ) → (e / 2 ^ d + 512) % 1024 ≡ nextOr e d 512
+    zero-is zero = ap (λ (n : ℕ). (n + 512) % 1024) (zero-div (2 ^ d))
+    zero-is (suc e) = ap (λ (b : Bool). cond b 512 ((suc e / 2 ^ d + 512) % 1024)) (sym (eqb·suc-zero e))
 
 abbrev entryRight : (entry down states blank : ℕ) → Bool
 entryRight entry down states blank = ltb (nextOr entry down blank) states
@@ -103,7 +126,11 @@ orders-zero t at (suc m) h =
     ∙ sym (eqb-sum (field t at (2 * m)) (field t (at + 2 * m) 2) 4 (lit< tt))
     ∙ ap (λ (n : ℕ). eqb n 0) (sym (ap (field t at) e ∙ field-add t at (2 * m) 2 (omega arith)))
 
-module _ (t : List ℕ) (at m s : ℕ) (within : at + (10 + 2 * m) ≤ 8 * length t) (some : 1 ≤ s) (few : s ≤ 512) where
+-- an entry is a small number
+pub entry-small : (t : List ℕ) (at d : ℕ) → d ≤ 16 → field t at (10 + d) < 67108864
+entry-small t at d h = lt-of-lt-of-le (field-lt t at (10 + d)) (pow-mono {j = 26} (omega arith))
+
+module _ (t : List ℕ) (at m s : ℕ) (within : at + (10 + 2 * m) ≤ 8 * length t) (narrow : m ≤ 8) (some : 1 ≤ s) (few : s ≤ 512) where
   entry-fields : field t at (10 + 2 * m) ≡ (field t at 1 * 512 + field t (at + 1) 9) * 2 ^ (2 * m) + field t (at + 10) (2 * m)
   entry-fields =
       field-add t at 10 (2 * m) (omega arith)
@@ -112,25 +139,24 @@ module _ (t : List ℕ) (at m s : ℕ) (within : at + (10 + 2 * m) ≤ 8 * lengt
   orders-are : every m (λ k. eqb (field t (at + 10 + 2 * k) 2) 0) ≡ eqb (field t (at + 10) (2 * m)) 0
   orders-are = orders-zero t (at + 10) m (omega arith)
 
-  pub module-entry : ltb (nextOr (field t at (10 + 2 * m)) (2 * m) 0) s
+  small : field t at (10 + 2 * m) < 67108864
+  small = entry-small t at (2 * m) (omega arith)
+
+  pub module-entry : ltb (nextOf (field t at (10 + 2 * m)) (2 * m) 67108863) s
       ≡ (ltb (field t (at + 1) 9) s && (eqb (field t at 1) 1 || (eqb (field t (at + 1) 9) 0 && every m (λ k. eqb (field t (at + 10 + 2 * k) 2) 0))))
   module-entry =
-      ap (λ (e : ℕ). entryRight e (2 * m) s 0) entry-fields
+      ap (λ (n : ℕ). ltb n s) (zeros-pass (field t at (10 + 2 * m)) (2 * m) small) ∙ ap (λ (e : ℕ). entryRight e (2 * m) s 0) entry-fields
       ∙ module-tests (field t (at + 1) 9) (field t (at + 10) (2 * m)) (2 * m) s (field-lt t (at + 1) 9) (field-lt t (at + 10) (2 * m)) some few
       (field t at 1) (field-lt t at 1)
       ∙ ap (λ (b : Bool). ltb (field t (at + 1) 9) s && (eqb (field t at 1) 1 || (eqb (field t (at + 1) 9) 0 && b))) (sym orders-are)
 
-  pub event-entry : ltb (nextOr (field t at (10 + 2 * m)) (2 * m) 512) s
+  pub event-entry : ltb (nextOf (field t at (10 + 2 * m)) (2 * m) 67108864) s
       ≡ ((ltb (field t (at + 1) 9) s && (eqb (field t at 1) 1 || (eqb (field t (at + 1) 9) 0 && every m (λ k. eqb (field t (at + 10 + 2 * k) 2) 0))))
       && eqb (field t at 1) 1)
   event-entry =
-      ap (λ (e : ℕ). entryRight e (2 * m) s 512) entry-fields
+      ap (λ (n : ℕ). ltb n s) (zeros-fail (field t at (10 + 2 * m)) (2 * m) small) ∙ ap (λ (e : ℕ). entryRight e (2 * m) s 512) entry-fields
       ∙ event-tests (field t (at + 1) 9) (field t (at + 10) (2 * m)) (2 * m) s (field-lt t (at + 1) 9) (field-lt t (at + 10) (2 * m)) some few
       (field t at 1) (field-lt t at 1)
       ∙ ap
       (λ (b : Bool). (ltb (field t (at + 1) 9) s && (eqb (field t at 1) 1 || (eqb (field t (at + 1) 9) 0 && b))) && eqb (field t at 1) 1)
       (sym orders-are)
-
--- an entry is a small number
-pub entry-small : (t : List ℕ) (at d : ℕ) → d ≤ 16 → field t at (10 + d) < 4294967296
-entry-small t at d h = lt-of-lt-of-le (field-lt t at (10 + d)) (pow-mono {j = 32} (omega arith))

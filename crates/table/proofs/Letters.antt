@@ -1,18 +1,17 @@
 -- The letters' bytes by their index, and a search among them. Assumes nothing.
-use Prim.Native.Nat.{ℕ, zero, suc, _+_, _-_, _*_, _≤_, _<_}
-use mathlib.Core.Path.{_≡_, refl, sym, ap, ap₂, _∙_, subst}
-use mathlib.Core.Bool.{Bool, cond, true, false}
+use Prim.Native.Nat.{ℕ, zero, suc, _+_, _-_, _≤_, _<_}
+use mathlib.Core.Path.{_≡_, refl, sym, ap, ap₂, _∙_}
+use mathlib.Core.Bool.{Bool, cond}
 use mathlib.Core.List.{List, [], _∷_, _++_, map}
-use mathlib.Core.Option.{Option, none, some}
+use mathlib.Core.Option.{none, some}
 use native.Mathlib.Nat.{add-zero, not-suc-le-zero, le-of-suc-le-suc}
 use native.Mathlib.Omega.{arith}
 use borrow.Author.Tests.{eq-eqb, ne-eqb}
-use lib.Dec.{eqb}
 use lib.ListN.{length, getD, length-append, List·getD-append}
 use lib.Seq.{getD-append-add}
 use Rattle.paper.specs.Lists.{from, below}
 use Rattle.paper.specs.Grammar.{moduleByte, eventByte}
-use Rattle.paper.specs.IsTable.{field, nameAt, moduleCount, eventCount, tableModules, tableEvents}
+use Rattle.paper.specs.IsTable.{nameAt, moduleCount, eventCount, tableModules, tableEvents}
 use Rattle.paper.specs.Calls.{indexFrom, letterBytes}
 use Rattle.table.specs.declared.Counts.{Counts}
 use Rattle.table.specs.Check.{Read}

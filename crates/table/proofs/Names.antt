@@ -1,13 +1,13 @@
 -- Names ascend exactly when each is at least the least that may follow. Assumes nothing.
-use Prim.Native.Nat.{ℕ, suc, _+_, _-_, _*_, _<_, _≤_}
+use Prim.Native.Nat.{ℕ, _+_, _-_, _<_, _≤_}
 use mathlib.Core.Path.{_≡_, refl, sym, ap, ap₂, _∙_}
-use mathlib.Core.Bool.{Bool, true, false, cond, not, _&&_, _||_, and-false}
+use mathlib.Core.Bool.{Bool, true, false, cond, _&&_, _||_, and-false}
 use mathlib.Core.List.{List}
 use native.Mathlib.Omega.{arith}
-use borrow.Author.Tests.{lt-ltb, le-ltb, le-leb, lt-leb, eq-eqb, ne-eqb}
+use borrow.Author.Tests.{le-leb, lt-leb, ne-eqb}
 use lib.Dec.{eqb, leb, ltb}
 use Rattle.paper.specs.Lists.{every}
-use Rattle.paper.specs.IsTable.{field, nameAt, ascend}
+use Rattle.paper.specs.IsTable.{nameAt, ascend}
 use Rattle.table.proofs.Tests.{least-test}
 use Rattle.table.proofs.Every.{every-more, every-not}
 

@@ -1,7 +1,7 @@
 -- Places in a table: their bound, and one entry after the other. Products are taken apart by the laws of `*`. Assumes nothing.
-use Prim.Native.Nat.{ℕ, suc, _+_, _*_, _≤_, _<_}
-use mathlib.Core.Path.{_≡_, refl, sym, ap, _∙_}
-use native.Mathlib.Nat.{add-mul, one-mul, mul-assoc, mul-comm, add-assoc, mul-le-mul, mul-le-mul-right, le-refl}
+use Prim.Native.Nat.{ℕ, _+_, _*_, _≤_, _<_}
+use mathlib.Core.Path.{_≡_, sym, ap, _∙_}
+use native.Mathlib.Nat.{add-mul, one-mul, mul-assoc, mul-comm, add-assoc, mul-le-mul, mul-le-mul-right}
 use native.Mathlib.Omega.{arith}
 use Rattle.table.specs.Places.{place}
 

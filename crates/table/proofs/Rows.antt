@@ -1,8 +1,8 @@
 -- The code's one pass over the entries tests next states, zeros and event bits: a state's entries are those of its modules and those of its events,
 -- each by the law of one entry, and `every` goes through `&&`. Assumes nothing.
-use Prim.Native.Nat.{ℕ, suc, _+_, _*_, _^_, _≤_, _<_}
-use mathlib.Core.Path.{_≡_, refl, sym, ap, ap₂, _∙_, subst}
-use mathlib.Core.Bool.{Bool, true, false, not, _&&_, _||_, and-assoc}
+use Prim.Native.Nat.{ℕ, _+_, _*_, _≤_, _<_}
+use mathlib.Core.Path.{_≡_, sym, ap, ap₂, _∙_, subst}
+use mathlib.Core.Bool.{Bool, not, _&&_, _||_, and-assoc}
 use mathlib.Core.List.{List}
 use native.Mathlib.Omega.{arith}
 use lib.Dec.{eqb, ltb}
@@ -11,7 +11,7 @@ use Rattle.paper.specs.Lists.{every}
 use Rattle.paper.specs.IsTable.{field, moduleCount, eventCount, stateCount, wrongNext, zeros, wrongZeros, wrongEvent, wrongStart}
 use Rattle.table.specs.declared.Counts.{Counts}
 use Rattle.table.specs.Places.{place}
-use Rattle.table.specs.Check.{Read, Counted, nextOr, runRight, rowRight}
+use Rattle.table.specs.Check.{Read, Counted, nextOf, runRight, rowRight}
 use Rattle.table.proofs.Tests.{not-not, not-three}
 use Rattle.table.proofs.Every.{every-same, every-and, every-add, four}
 use Rattle.table.proofs.Entries.{module-entry, event-entry}
@@ -28,7 +28,7 @@ zerosOk t m at = eqb (field t at 1) 1 || (eqb (field t (at + 1) 9) 0 && every m 
 abbrev possibleOk : List ℕ → (at : ℕ) → Bool
 possibleOk t at = eqb (field t at 1) 1
 
-module _ (t : List ℕ) (m n states : ℕ) (within : place m n states 0 ≤ 8 * length t) (some : 1 ≤ states) (few : states ≤ 512) where
+module _ (t : List ℕ) (m n states : ℕ) (within : place m n states 0 ≤ 8 * length t) (narrow : m ≤ 8) (some : 1 ≤ states) (few : states ≤ 512) where
   row-tests : (s : ℕ) → s < states → rowRight t (24 + 6 * (m + n) + s * ((m + n) * (10 + 2 * m))) m n states
       ≡ (every (m + n) (λ l. nextOk t states (place m n s l)) && every (m + n) (λ l. zerosOk t m (place m n s l))
       && every n (λ e. possibleOk t (place m n s (m + e))))
@@ -44,19 +44,19 @@ module _ (t : List ℕ) (m n states : ℕ) (within : place m n states 0 ≤ 8 * 
       (four (every m (λ l. nextOk t states (place m n s l))) (every m (λ l. zerosOk t m (place m n s l))) (every n (λ e. nextOk t states (place m n s (m + e)))) (every n (λ e. zerosOk t m (place m n s (m + e))))
       ∙ ap₂ (λ (a b : Bool). a && b) (sym (every-add m n (λ l. nextOk t states (place m n s l)))) (sym (every-add m n (λ l. zerosOk t m (place m n s l)))))
     where
-      modules-are : (k : ℕ) → k < m → ltb (nextOr (field t (24 + 6 * (m + n) + s * ((m + n) * (10 + 2 * m)) + k * (10 + 2 * m)) (10 + 2 * m)) (2 * m) 0) states
+      modules-are : (k : ℕ) → k < m → ltb (nextOf (field t (24 + 6 * (m + n) + s * ((m + n) * (10 + 2 * m)) + k * (10 + 2 * m)) (10 + 2 * m)) (2 * m) 67108863) states
           ≡ (nextOk t states (place m n s k) && zerosOk t m (place m n s k))
       modules-are k hk =
           let w = entry-within m n s k states hs (omega arith) in
-          ap (λ (at : ℕ). ltb (nextOr (field t at (10 + 2 * m)) (2 * m) 0) states) (row-place m n s k)
-          ∙ module-entry t (place m n s k) m states (omega arith) some few
+          ap (λ (at : ℕ). ltb (nextOf (field t at (10 + 2 * m)) (2 * m) 67108863) states) (row-place m n s k)
+          ∙ module-entry t (place m n s k) m states (omega arith) narrow some few
 
-      events-are : (k : ℕ) → k < n → ltb (nextOr (field t (24 + 6 * (m + n) + s * ((m + n) * (10 + 2 * m)) + m * (10 + 2 * m) + k * (10 + 2 * m)) (10 + 2 * m)) (2 * m) 512) states
+      events-are : (k : ℕ) → k < n → ltb (nextOf (field t (24 + 6 * (m + n) + s * ((m + n) * (10 + 2 * m)) + m * (10 + 2 * m) + k * (10 + 2 * m)) (10 + 2 * m)) (2 * m) 67108864) states
           ≡ ((nextOk t states (place m n s (m + k)) && zerosOk t m (place m n s (m + k))) && possibleOk t (place m n s (m + k)))
       events-are k hk =
           let w = entry-within m n s (m + k) states hs (omega arith) in
-          ap (λ (at : ℕ). ltb (nextOr (field t at (10 + 2 * m)) (2 * m) 512) states) (row-place-add m n s k)
-          ∙ event-entry t (place m n s (m + k)) m states (omega arith) some few
+          ap (λ (at : ℕ). ltb (nextOf (field t at (10 + 2 * m)) (2 * m) 67108864) states) (row-place-add m n s k)
+          ∙ event-entry t (place m n s (m + k)) m states (omega arith) narrow some few
 
   all-tests : every states (λ s. rowRight t (24 + 6 * (m + n) + s * ((m + n) * (10 + 2 * m))) m n states)
       ≡ (every states (λ s. every (m + n) (λ l. nextOk t states (place m n s l)))
@@ -92,11 +92,11 @@ short-all t c h =
     let e = end-le (c .modules) (c .events) (c .states) (h .fewModules) (h .fewEvents) (h .fewStates) in
     omega arith
 
-rows-are : (t : List ℕ) → place (moduleCount t) (eventCount t) (stateCount t) 0 ≤ 8 * length t → 1 ≤ stateCount t → stateCount t ≤ 512
+rows-are : (t : List ℕ) → place (moduleCount t) (eventCount t) (stateCount t) 0 ≤ 8 * length t → moduleCount t ≤ 8 → 1 ≤ stateCount t → stateCount t ≤ 512
     → rowsRight t (moduleCount t) (eventCount t) (stateCount t) ≡ not (wrongNext t || wrongZeros t || wrongEvent t)
 unfolding wrongNext wrongZeros wrongEvent zeros
-rows-are t h k f =
-    all-tests t (moduleCount t) (eventCount t) (stateCount t) h k f
+rows-are t h w k f =
+    all-tests t (moduleCount t) (eventCount t) (stateCount t) h w k f
     ∙ sym (not-three (every (stateCount t) (λ s. every (moduleCount t + eventCount t) (λ l. nextOk t (stateCount t) (place (moduleCount t) (eventCount t) s l))))
     (every (stateCount t) (λ s. every (moduleCount t + eventCount t) (λ l. zerosOk t (moduleCount t) (place (moduleCount t) (eventCount t) s l))))
     (every (stateCount t) (λ s. every (eventCount t) (λ e. possibleOk t (place (moduleCount t) (eventCount t) s (moduleCount t + e))))))
@@ -107,8 +107,10 @@ rows-right t c h =
     let s = h .read .states in
     let i = h .someStates in
     let f = h .fewStates in
+    let g = h .fewModules in
+    let n = h .read .modules in
     with-counts (rowsRight t) t c (h .read)
-    ∙ rows-are t (subst (λ (n : ℕ). n ≤ 8 * length t) (with-counts (λ m n s. place m n s 0) t c (h .read)) w) (omega arith) (omega arith)
+    ∙ rows-are t (subst (λ (n : ℕ). n ≤ 8 * length t) (with-counts (λ m n s. place m n s 0) t c (h .read)) w) (omega arith) (omega arith) (omega arith)
 
 starts-are : (t : List ℕ) → startsRight t (moduleCount t) (eventCount t) ≡ not (wrongStart t)
 unfolding wrongStart

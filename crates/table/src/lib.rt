@@ -6,7 +6,7 @@ ghost use lib.ListN.{length, getD};
 ghost use Rattle.paper.specs.Calls.{eight, notStepped, tableStart, tableStep, indexFrom, letterBytes, entered};
 ghost use Rattle.paper.specs.IsTable.{tableModules, tableEvents, isTable, ascend, wrongName, wrongStart, wrongNext, wrongZeros, wrongEvent, wrongPadding};
 ghost use Rattle.table.specs.Places.{place};
-ghost use Rattle.table.specs.Check.{Read, Counted, shapeSays, checkSays, inLimits, nextOr, runRight, rowRight};
+ghost use Rattle.table.specs.Check.{Read, Counted, shapeSays, checkSays, inLimits, nextOf, runRight, rowRight};
 ghost use Rattle.table.specs.Answers.{stepped, foundSays, Fine, fieldsFrom, placeOf, Indexed};
 
 // What start and step answer: number and place, or the state and an order for each module.
@@ -155,27 +155,24 @@ fn starts_right(t: &[u8], c: Counts) -> bool
     true
 }
 
-// The next state of an entry as one number, its orders the `down` low bits: no state where it is not possible, `blank` where all is zero. No test
-// branches here, since which modules run is not to be foretold.
-fn next_or(entry: usize, down: usize, blank: usize) -> usize
-    requires { ⌜ (down ≤ 16) × (entry < 4294967296) ⌝ }
-    ensures { λ r. ⌜ r ≡ nextOr entry down blank ⌝ }
+// The next state of an entry as one number, its orders the `down` low bits, and no state where it is not possible. An entry of zeros counts as state 0
+// where `round` is 2 ^ 26 - 1, and as no state where it is one more: a product and no branch, since which modules run is not to be foretold.
+fn next_of(entry: usize, down: usize, round: usize) -> usize
+    requires { ⌜ (down ≤ 16) × ((entry < 67108864) × (round ≤ 67108864)) ⌝ }
+    ensures { λ r. ⌜ r ≡ nextOf entry down round ⌝ }
 {
-    if entry == 0 {
-        return blank;
-    }
-    ((entry >> down) + 512) % 1024
+    ((entry >> down) + 512) % 1024 * ((entry + round) >> 26)
 }
 
-// Entries one after the other: the next state of each is a state, and so is `blank` where one may be zero.
-fn run_right(t: &[u8], from: usize, count: usize, down: usize, states: usize, blank: usize) -> bool
-    requires { ⌜ (down ≤ 16) × ((count ≤ 8) × ((length (now t) ≤ 26639) × (from + count * (10 + down) ≤ 8 * length (now t)))) ⌝ }
-    ensures { λ r. ⌜ r ≡ runRight (now (t .entry)) from count down states blank ⌝ }
+// Entries one after the other: the next state of each is a state.
+fn run_right(t: &[u8], from: usize, count: usize, down: usize, states: usize, round: usize) -> bool
+    requires { ⌜ (down ≤ 16) × ((count ≤ 8) × ((round ≤ 67108864) × ((length (now t) ≤ 26639) × (from + count * (10 + down) ≤ 8 * length (now t))))) ⌝ }
+    ensures { λ r. ⌜ r ≡ runRight (now (t .entry)) from count down states round ⌝ }
 {
     let mut bit = from;
     let mut k: usize = 0;
     while k < count {
-        if states <= next_or(fields::get(t, bit, 10 + down), down, blank) {
+        if states <= next_of(fields::get(t, bit, 10 + down), down, round) {
             return false;
         }
         bit += 10 + down;
@@ -184,23 +181,17 @@ fn run_right(t: &[u8], from: usize, count: usize, down: usize, states: usize, bl
     true
 }
 
-// The entries of one state: a module's may be zero, which counts as state 0; an event's may not, and counts as no state.
+// The entries of one state: a module's may be zero, an event's not.
 fn row_right(t: &[u8], from: usize, c: Counts) -> bool
     requires { ⌜ Counted (now t) c × (from + (c .modules + c .events) * (10 + 2 * c .modules) ≤ 8 * length (now t)) ⌝ }
     ensures { λ r. ⌜ r ≡ rowRight (now (t .entry)) from (c .modules) (c .events) (c .states) ⌝ }
 {
     let down = 2 * c.modules;
-    if !run_right(t, from, c.modules, down, c.states, 0) {
+    if !run_right(t, from, c.modules, down, c.states, 67108863) {
         return false;
     }
-    run_right(
-        t,
-        from + c.modules * (10 + down),
-        c.events,
-        down,
-        c.states,
-        512,
-    )
+    let events = from + c.modules * (10 + down);
+    run_right(t, events, c.events, down, c.states, 67108864)
 }
 
 // All entries: next states, zeros and event bits, in one pass.

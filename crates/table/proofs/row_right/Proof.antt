@@ -20,23 +20,23 @@ run-right-requires : tie.Need-run-right-requires
 run-right-requires c κs =
     let a = c .before .before .args in
     let h = (c .before .before .pre .0) in
-    (omega arith, (omega arith, (short-all (a .t .now) (a .c) h, omega (arith, add-mul (a .c .modules) (a .c .events) (10 + 2 * (a .c .modules))))))
+    (omega arith, (omega arith, (omega arith, (short-all (a .t .now) (a .c) h, omega (arith, add-mul (a .c .modules) (a .c .events) (10 + 2 * (a .c .modules)))))))
 
 returns : tie.Need-returns
 unfolding rowRight
 returns c = first-fails _ _ (sym (c .before .run-right .ensures) ∙ not-true _ (c .if1 .taken))
 
-add-run-right : tie.Need-add-run-right
-add-run-right c = search needs
+add-events : tie.Need-add-events
+add-events c = search needs
 
-mul-run-right : tie.Need-mul-run-right
-mul-run-right c =
+mul-events : tie.Need-mul-events
+mul-events c =
     let a = c .before .before .before .before .before .args in
     let h₀ = c .before .before .before .before .before .pre in
     let h = (h₀ .0) in omega (arith, run-le (a .c .modules) (2 * (a .c .modules)) (h₀ .0 .fewModules) (omega arith))
 
-add-run-right-2 : tie.Need-add-run-right-2
-add-run-right-2 c =
+add-events-2 : tie.Need-add-events-2
+add-events-2 c =
     let a = c .before .before .before .before .before .args in
     let h₀ = c .before .before .before .before .before .pre in
     let h = (h₀ .0) in omega (arith, run-le (a .c .modules) (2 * (a .c .modules)) (h₀ .0 .fewModules) (omega arith), add-mul (a .c .modules) (a .c .events) (10 + 2 * (a .c .modules)), short-all (a .t .now) (a .c) h)
@@ -45,7 +45,7 @@ run-right-requires-2 : tie.Need-run-right-requires-2
 run-right-requires-2 c κs =
     let a = c .before .before .before .before .before .args in
     let h = (c .before .before .before .before .before .pre .0) in
-    (omega arith, (omega arith, (short-all (a .t .now) (a .c) h, omega (arith, add-mul (a .c .modules) (a .c .events) (10 + 2 * (a .c .modules))))))
+    (omega arith, (omega arith, (omega arith, (short-all (a .t .now) (a .c) h, omega (arith, add-mul (a .c .modules) (a .c .events) (10 + 2 * (a .c .modules)))))))
 
 returns-2 : tie.Need-returns-2
 unfolding rowRight
@@ -58,8 +58,8 @@ row-right-spec =
     mul-down
     run-right-requires
     returns
-    add-run-right
-    mul-run-right
-    add-run-right-2
+    add-events
+    mul-events
+    add-events-2
     run-right-requires-2
     returns-2)
