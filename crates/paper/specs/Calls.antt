@@ -42,7 +42,7 @@ outputBytes = 26640
 abbrev pub workBytes : ℕ
 workBytes = 65536
 
--- "leaves every lent buffer as stated"
+-- "The working slice is zero after every compile call but No. 1"
 abbrev pub cleared : List ℕ → List ℕ
 cleared work = replicate (length work) 0
 

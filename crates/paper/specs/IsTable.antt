@@ -41,7 +41,7 @@ stateCount t = suc (field t 12 12)
 abbrev pub letterCount : List ℕ → ℕ
 letterCount t = moduleCount t + eventCount t
 
--- "names ascending, 5 bits each, modules then events"
+-- "names ascending, 5 bits each (A or a is 0), modules then events"
 abbrev pub nameAt : List ℕ → ℕ → ℕ
 nameAt t i = field t (24 + 5 * i) 5
 

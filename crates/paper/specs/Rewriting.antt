@@ -1,6 +1,6 @@
 -- What a completion and an event make of a term. Document 01, "What a state is", Completion and Taking:
 --     Letter                a completion of a module, or an occurrence of an event
---     rewritten l t         what the letter l leaves of the term t; taking shares with completion what "behaves as above" says
+--     rewritten l t         what the letter l leaves of the term t; taking shares with completion what "behave as above" says
 --     completed m t, taken e t      the two, by name
 --     hit l i               what a struck interruption becomes
 -- Not here: when an event is taken (`Reaction`), what the memory does (`Settling`). Assumes nothing.
