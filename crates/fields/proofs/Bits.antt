@@ -54,7 +54,7 @@ bits-take (suc w) n v =
     ∙ ap₂ (λ (b : ℕ) (r : List ℕ). (b % 2) ∷ r) e (bits-take w n v)
 
 -- the w low bits do not tell what stands above them
-bits-low : (w a v : ℕ) → bits w (a * 2 ^ w + v) ≡ bits w v
+pub bits-low : (w a v : ℕ) → bits w (a * 2 ^ w + v) ≡ bits w v
 unfolding bits
 bits-low zero a v = refl
 bits-low (suc w) a v =

@@ -44,28 +44,27 @@ field-add t at a b h =
 -- ---- a field's bound
 
 -- each is 0 or 1
-AreBits : List ℕ → Type 0
+abbrev pub AreBits : List ℕ → Type 0
 AreBits l = (i : ℕ) → getD l i 0 < 2
 
-bits-are : (w v : ℕ) (r : List ℕ) → AreBits r → AreBits (bits w v ++ r)
-unfolding AreBits bits
+pub bits-are : (w v : ℕ) (r : List ℕ) → AreBits r → AreBits (bits w v ++ r)
+unfolding bits
 bits-are zero v r h i = h i
 bits-are (suc w) v r h zero = mod-lt (v / 2 ^ w) (lit< tt)
 bits-are (suc w) v r h (suc i) = bits-are w v r h i
 
-bitsOf-are : (s : List ℕ) → AreBits (bitsOf s)
-unfolding AreBits bitsOf gather
+pub bitsOf-are : (s : List ℕ) → AreBits (bitsOf s)
+unfolding bitsOf gather
 bitsOf-are [] i = lit< tt
 bitsOf-are (x ∷ xs) i = bits-are 8 x (bitsOf xs) (bitsOf-are xs) i
 
-drop-are : (n : ℕ) (l : List ℕ) → AreBits l → AreBits (drop n l)
-unfolding AreBits
+pub drop-are : (n : ℕ) (l : List ℕ) → AreBits l → AreBits (drop n l)
 drop-are zero l h i = h i
 drop-are (suc n) [] h i = h i
 drop-are (suc n) (x ∷ xs) h i = drop-are n xs (λ j. h (suc j)) i
 
-number-lt : (n w : ℕ) (l : List ℕ) → AreBits l → numberFrom n (take w l) < (n + 1) * 2 ^ w
-unfolding AreBits numberFrom
+pub number-lt : (n w : ℕ) (l : List ℕ) → AreBits l → numberFrom n (take w l) < (n + 1) * 2 ^ w
+unfolding numberFrom
 number-lt n zero l h = omega arith
 number-lt n (suc w) [] h = omega (arith, mul-le-mul-left (n + 1) (pow-pos (suc w)))
 number-lt n (suc w) (x ∷ xs) h =

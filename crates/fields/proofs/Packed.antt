@@ -33,7 +33,7 @@ packed-last c v (b ∷ bs) h l =
     ∙ packed-last (c + 1) (v * 2 + b) bs (omega arith) (omega arith)
     ∙ ap (λ (n : ℕ). numberFrom (v * 2 + b) bs * 2 ^ (8 - n) ∷ []) e
 
-number-zeros : (k : ℕ) → numberFrom 0 (replicate k 0) ≡ 0
+pub number-zeros : (k : ℕ) → numberFrom 0 (replicate k 0) ≡ 0
 unfolding numberFrom
 number-zeros zero = refl
 number-zeros (suc k) = number-zeros k

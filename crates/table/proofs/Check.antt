@@ -13,9 +13,10 @@ use lib.Seq.{take-all}
 use Rattle.paper.specs.IsTable.{bitsOf, numberFrom, field, layout, moduleCount, eventCount, stateCount, bitCount, wrongLayout, wrongCount, wrongLength, ascend, wrongName, wrongNext, wrongZeros, wrongEvent, wrongStart, wrongPadding, isTable}
 use Rattle.fields.proofs.Bits.{bitsOf-length}
 use Rattle.table.specs.declared.Counts.{Counts}
-use Rattle.table.specs.Places.{place}
+use Rattle.layout.specs.Places.{place}
 use Rattle.table.specs.Check.{Read, Counted, inLimits}
-use Rattle.table.proofs.Tests.{or-cases, not-or, not-not, and-both}
+use Rattle.layout.proofs.Tests.{or-cases, not-or, not-not, and-both}
+use Rattle.layout.proofs.Conditions.{right-layout}
 use Rattle.table.proofs.Rows.{with-counts}
 
 -- ---- one part is wrong
@@ -116,10 +117,6 @@ padding-right t c end x r f e =
     ∙ sym (not-not (eqb (numberFrom 0 (drop (bitCount t) (bitsOf t))) 0))
 
 -- ---- nothing is wrong
-
-right-layout : (t : List ℕ) → layout t ≡ 1 → wrongLayout t ≡ false
-unfolding wrongLayout
-right-layout t h = ap not (eq-eqb (layout t) 1 h)
 
 right-count : (t : List ℕ) (c : Counts) → Counted t c → wrongCount t ≡ false
 unfolding wrongCount

@@ -12,6 +12,7 @@ use Rattle.paper.specs.Lists.{from, below}
 use Rattle.paper.specs.IsTable.{field}
 use Rattle.paper.specs.Calls.{eight}
 use Rattle.fields.proofs.Fields.{field-lt}
+use Rattle.layout.proofs.Lists.{below-length}
 use Rattle.table.specs.Answers.{fieldsFrom}
 
 from-snoc : (f : ℕ → ℕ) (k n : ℕ) → map f (from k (suc n)) ≡ map f (from k n) ++ (f (k + n) ∷ [])
@@ -21,19 +22,10 @@ from-snoc f k (suc n) =
     let e : suc k + n ≡ k + suc n = omega arith in
     ap (λ (l : List ℕ). f k ∷ l) (from-snoc f (suc k) n ∙ ap (λ (i : ℕ). map f (from (suc k) n) ++ (f i ∷ [])) e)
 
-from-length : (f : ℕ → ℕ) (k n : ℕ) → length (map f (from k n)) ≡ n
-unfolding from
-from-length f k zero = refl
-from-length f k (suc n) = ap suc (from-length f (suc k) n)
-
 below-more : (f : ℕ → ℕ) (k : ℕ) → map f (below (k + 1)) ≡ map f (below k) ++ (f k ∷ [])
 unfolding below
 below-more f k =
     ap (λ (n : ℕ). map f (from 0 n)) (add-one k) ∙ from-snoc f 0 k ∙ ap (λ (i : ℕ). map f (from 0 k) ++ (f i ∷ [])) (zero-add k)
-
-below-length : (f : ℕ → ℕ) (k : ℕ) → length (map f (below k)) ≡ k
-unfolding below
-below-length f k = from-length f 0 k
 
 -- one zero fewer is enough where something stands in front
 eight-fewer : (ys : List ℕ) → 1 ≤ length ys → take 8 (ys ++ replicate 7 0) ≡ eight ys

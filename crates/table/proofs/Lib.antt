@@ -1,7 +1,4 @@
-pub mod Tests
-pub mod Every
 pub mod Entries
-pub mod Places
 pub mod Rows
 pub mod Names
 pub mod Check

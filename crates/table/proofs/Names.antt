@@ -8,8 +8,8 @@ use borrow.Author.Tests.{le-leb, lt-leb, ne-eqb}
 use lib.Dec.{eqb, leb, ltb}
 use Rattle.paper.specs.Lists.{every}
 use Rattle.paper.specs.IsTable.{nameAt, ascend}
-use Rattle.table.proofs.Tests.{least-test}
-use Rattle.table.proofs.Every.{every-more, every-not}
+use Rattle.layout.proofs.Tests.{least-test}
+use Rattle.layout.proofs.Every.{every-more, every-not}
 
 -- the least that the k-th name may be
 abbrev pub leastOf : List ℕ → (from k : ℕ) → ℕ

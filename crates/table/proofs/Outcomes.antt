@@ -12,7 +12,7 @@ use Rattle.paper.specs.IsTable.{field, moduleCount, eventCount, stateCount, isT
 use Rattle.paper.specs.Calls.{Stepped, eight, notStepped, stepsTo, tableStart, tableStep, indexFrom, letterBytes, entered}
 use Rattle.table.specs.declared.Counts.{Counts}
 use Rattle.table.specs.declared.Found.the-variants.{NotTable, NoState, NoLetter, NotRunning, Goes}
-use Rattle.table.specs.Places.{place}
+use Rattle.layout.specs.Places.{place}
 use Rattle.table.specs.Check.{Read}
 use Rattle.table.specs.Answers.{foundSays, fieldsFrom}
 use Rattle.table.proofs.Rows.{with-counts}

@@ -10,12 +10,12 @@ use lib.ListN.{length}
 use Rattle.paper.specs.Lists.{every}
 use Rattle.paper.specs.IsTable.{field, moduleCount, eventCount, stateCount, wrongNext, zeros, wrongZeros, wrongEvent, wrongStart}
 use Rattle.table.specs.declared.Counts.{Counts}
-use Rattle.table.specs.Places.{place}
+use Rattle.layout.specs.Places.{place}
 use Rattle.table.specs.Check.{Read, Counted, nextOf, runRight, rowRight}
-use Rattle.table.proofs.Tests.{not-not, not-three}
-use Rattle.table.proofs.Every.{every-same, every-and, every-add, four}
+use Rattle.layout.proofs.Tests.{not-not, not-three}
+use Rattle.layout.proofs.Every.{every-same, every-and, every-add, four}
 use Rattle.table.proofs.Entries.{module-entry, event-entry}
-use Rattle.table.proofs.Places.{row-place, row-place-add, entry-within, end-le}
+use Rattle.layout.proofs.Places.{row-place, row-place-add, entry-within, end-le}
 
 -- ---- the tests of No. 19, at the place of an entry
 

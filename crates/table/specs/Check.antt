@@ -17,7 +17,7 @@ use Rattle.paper.specs.IsTable.{field, layout, moduleCount, eventCount, stateCo
 use Rattle.table.specs.declared.Counts.{Counts}
 use Rattle.table.specs.declared.Shape.{Shape}
 use Rattle.table.specs.declared.Shape.the-variants.{Wrong, Right}
-use Rattle.table.specs.Places.{place}
+use Rattle.layout.specs.Places.{place}
 
 pub record Read (t : List ℕ) (c : Counts) : Type 0 where
   pub modules : c .modules ≡ moduleCount t

@@ -5,7 +5,7 @@ ghost use Prim.Native.Nat.{_+_, _*_, _≤_, _<_};
 ghost use lib.ListN.{length, getD};
 ghost use Rattle.paper.specs.Calls.{eight, notStepped, tableStart, tableStep, indexFrom, letterBytes, entered};
 ghost use Rattle.paper.specs.IsTable.{tableModules, tableEvents, isTable, ascend, wrongName, wrongStart, wrongNext, wrongZeros, wrongEvent, wrongPadding};
-ghost use Rattle.table.specs.Places.{place};
+ghost use Rattle.layout.specs.Places.{place};
 ghost use Rattle.table.specs.Check.{Read, Counted, shapeSays, checkSays, inLimits, nextOf, runRight, rowRight};
 ghost use Rattle.table.specs.Answers.{stepped, foundSays, Fine, fieldsFrom, placeOf, Indexed};
 

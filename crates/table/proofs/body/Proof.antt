@@ -3,7 +3,7 @@
 use mathlib.Core.Bool.{_||_}
 use Rattle.paper.specs.IsTable.{wrongName, wrongStart, wrongNext, wrongZeros, wrongEvent, wrongPadding}
 use Rattle.table.specs.Check.{checkSays}
-use Rattle.table.proofs.Tests.{broken, kept}
+use Rattle.layout.proofs.Tests.{broken, kept}
 use Rattle.table.proofs.Check.{no-name, no-start, no-rows, no-padding, is-table}
 use borrow.Author.Needs.{needs}
 use Rattle.table.proofs.body.Statement.{statement}

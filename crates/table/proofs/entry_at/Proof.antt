@@ -2,7 +2,7 @@
 -- Assumes nothing.
 use native.Mathlib.Omega.{arith}
 use Rattle.table.specs.Answers.{Fine}
-use Rattle.table.proofs.Places.{entry-within}
+use Rattle.layout.proofs.Places.{entry-within}
 use Rattle.table.proofs.Rows.{within-all, short-all}
 use Rattle.table.proofs.Outcomes.{step-22, step-to}
 use borrow.Author.Needs.{needs}

@@ -2,7 +2,7 @@
 -- (`entries-le`).
 -- Assumes nothing.
 use native.Mathlib.Omega.{arith}
-use Rattle.table.proofs.Places.{letters-le, entries-le}
+use Rattle.layout.proofs.Places.{letters-le, entries-le}
 use borrow.Author.Needs.{needs}
 use Rattle.table.proofs.entry_place.Statement.{statement}
 use Rattle.table.proofs.entry_place.Tie as tie

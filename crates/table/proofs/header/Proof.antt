@@ -4,7 +4,7 @@
 use native.Mathlib.Omega.{arith}
 use borrow.Author.Tests.{not-true, not-false}
 use Rattle.table.specs.Check.{shapeSays}
-use Rattle.table.proofs.Places.{entries-le}
+use Rattle.layout.proofs.Places.{entries-le}
 use Rattle.table.proofs.Check.{short-no, layout-no, limits-no, length-no, in-limits, some-states}
 use Rattle.paper.specs.IsTable.{layout}
 use mathlib.Core.Path.{ap, sym, _∙_}

@@ -1,6 +1,6 @@
 -- `table::in_limits` meets its contract: each test decides one part of `inLimits`.
 -- Assumes nothing.
-use Rattle.table.proofs.Tests.{third}
+use Rattle.layout.proofs.Tests.{third}
 use borrow.Author.Tests.{le-leb, lt-leb}
 use Rattle.table.proofs.in_limits.Statement.{statement}
 use Rattle.table.proofs.in_limits.Tie as tie

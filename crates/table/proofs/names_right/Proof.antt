@@ -3,7 +3,7 @@
 use mathlib.Core.Path.{sym, _∙_}
 use native.Mathlib.Omega.{arith}
 use borrow.Author.Tests.{not-true, not-false}
-use Rattle.table.proofs.Tests.{second, first-fails}
+use Rattle.layout.proofs.Tests.{second, first-fails}
 use Rattle.table.proofs.Rows.{within-all}
 use Rattle.table.proofs.Check.{names-right}
 use Rattle.table.proofs.names_right.Statement.{statement}

@@ -8,7 +8,7 @@ use native.Mathlib.Nat.{mul-le-mul, mul-le-mul-left}
 use Rattle.paper.specs.Calls.{eight}
 use Rattle.table.specs.Answers.{fieldsFrom}
 use Rattle.table.proofs.Eight.{orders-none, orders-more, field-byte}
-use Rattle.table.proofs.Places.{turn-right}
+use Rattle.layout.proofs.Places.{turn-right}
 use Rattle.table.proofs.orders.Statement.{statement}
 use Rattle.table.proofs.orders.Tie as tie
 

@@ -6,8 +6,8 @@ use native.Mathlib.Omega.{arith}
 use native.Mathlib.Nat.{add-mul}
 use borrow.Author.Tests.{not-true, not-false}
 use Rattle.table.specs.Check.{rowRight}
-use Rattle.table.proofs.Tests.{second, first-fails}
-use Rattle.table.proofs.Places.{run-le}
+use Rattle.layout.proofs.Tests.{second, first-fails}
+use Rattle.layout.proofs.Places.{run-le}
 use Rattle.table.proofs.Rows.{short-all}
 use borrow.Author.Needs.{needs}
 use Rattle.table.proofs.row_right.Statement.{statement}

@@ -8,8 +8,8 @@ use native.Mathlib.Omega.{arith}
 use borrow.Author.Tests.{not-true, not-false}
 use Rattle.paper.specs.Lists.{every}
 use Rattle.table.specs.Check.{rowRight}
-use Rattle.table.proofs.Every.{every-more, every-not}
-use Rattle.table.proofs.Places.{row-within, row-le, turn}
+use Rattle.layout.proofs.Every.{every-more, every-not}
+use Rattle.layout.proofs.Places.{row-within, row-le, turn}
 use Rattle.table.proofs.Rows.{within-all, short-all, rows-right}
 use borrow.Author.Needs.{needs}
 use Rattle.table.proofs.rows_right.Statement.{statement}

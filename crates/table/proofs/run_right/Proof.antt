@@ -11,8 +11,8 @@ use borrow.Author.Tests.{le-ltb, lt-ltb}
 use Rattle.paper.specs.Lists.{every}
 use Rattle.paper.specs.IsTable.{field}
 use Rattle.table.specs.Check.{runRight, nextOf}
-use Rattle.table.proofs.Every.{every-more, every-not}
-use Rattle.table.proofs.Places.{turn}
+use Rattle.layout.proofs.Every.{every-more, every-not}
+use Rattle.layout.proofs.Places.{turn}
 use Rattle.table.proofs.run_right.Statement.{statement}
 use Rattle.table.proofs.run_right.Tie as tie
 

@@ -9,8 +9,8 @@ use native.Mathlib.Omega.{arith}
 use borrow.Author.Tests.{eq-eqb, ne-eqb}
 use Rattle.paper.specs.Lists.{every}
 use Rattle.paper.specs.IsTable.{field}
-use Rattle.table.proofs.Every.{every-more, every-not}
-use Rattle.table.proofs.Places.{entry-within, run-le}
+use Rattle.layout.proofs.Every.{every-more, every-not}
+use Rattle.layout.proofs.Places.{entry-within, run-le}
 use Rattle.table.proofs.Rows.{within-all, starts-right}
 use Rattle.table.proofs.starts_right.Statement.{statement}
 use Rattle.table.proofs.starts_right.Tie as tie

@@ -3,7 +3,7 @@ use Prim.Native.Nat.{ℕ, _+_, _*_, _≤_, _<_}
 use mathlib.Core.Path.{_≡_, sym, ap, _∙_}
 use native.Mathlib.Nat.{add-mul, one-mul, mul-assoc, mul-comm, add-assoc, mul-le-mul, mul-le-mul-right}
 use native.Mathlib.Omega.{arith}
-use Rattle.table.specs.Places.{place}
+use Rattle.layout.specs.Places.{place}
 
 pub turn : (k w : ℕ) → (k + 1) * w ≡ k * w + w
 turn k w = add-mul k 1 w ∙ ap (λ (n : ℕ). k * w + n) (one-mul w)

@@ -1,4 +1,5 @@
--- Laws of `every`: what a loop over it needs, and how it goes through `&&`, a sum of counts and equal tests. By induction on the count.
+-- Laws of `every`: what it says at each number, what a loop over it needs, and how it goes through `&&`, a sum of counts and equal tests. By induction
+-- on the count.
 -- Assumes nothing.
 use Prim.Native.Nat.{ℕ, zero, suc, _+_, _<_}
 use mathlib.Core.Path.{_≡_, refl, sym, ap, ap₂, _∙_}
@@ -8,6 +9,23 @@ use native.Mathlib.Numerals.{add-one}
 use native.Mathlib.Decide.{decLt}
 use native.Mathlib.Omega.{arith}
 use Rattle.paper.specs.Lists.{every}
+use Rattle.layout.proofs.Tests.{and-both}
+
+pub every-all : (n : ℕ) (p : ℕ → Bool) → ((k : ℕ) → k < n → p k ≡ true) → every n p ≡ true
+unfolding every
+every-all zero p h = refl
+every-all (suc n) p h = ap₂ (λ (a b : Bool). a && b) (every-all n p (λ k l. h k (omega arith))) (h n (omega arith))
+
+pub every-at : (n : ℕ) (p : ℕ → Bool) → every n p ≡ true → (k : ℕ) → k < n → p k ≡ true
+unfolding every
+every-at zero p h k l = absurd (not-suc-le-zero l)
+every-at (suc n) p h k l = last (decLt k n) (every-at n p (and-both (every n p) (p n) h .0) k)
+  where
+    last : Dec (k < n) → (k < n → p k ≡ true) → p k ≡ true
+    last (yes q) f = f q
+    last (no q) f =
+        let e : k ≡ n = omega arith in
+        ap p e ∙ and-both (every n p) (p n) h .1
 
 pub every-more : (k : ℕ) (p : ℕ → Bool) → every k p ≡ true → p k ≡ true → every (k + 1) p ≡ true
 unfolding every

@@ -1,0 +1,14 @@
+pub mod Tests
+pub mod Every
+pub mod Places
+pub mod Lists
+pub mod Stands
+pub mod Packs
+pub mod Parts
+pub mod Spoken
+pub mod Written
+pub mod Conditions
+pub mod Sound
+pub mod Complete
+pub mod Law
+pub mod Answers
