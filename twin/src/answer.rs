@@ -1,11 +1,11 @@
 //! The lines that the commands print; each ends in byte 10.
 
 use crate::config::read_config;
-use crate::limits::Edition;
+use crate::limits::{Edition, MOST_NAMES};
 use crate::live::Live;
 use crate::refusal::Refusal;
 use crate::rules::{postorder, Order};
-use crate::table::{compile, table_start, table_step};
+use crate::table::{compile, table_start, table_step, Table};
 
 /// "print `ok STATES BYTES` and a line of lower-case hex, or `refused NUMBER at PLACE`".
 pub fn compile_answer(bytes: &[u8], edition: Edition) -> Vec<u8> {
@@ -124,4 +124,37 @@ pub fn table_step_answer(bytes: &[u8], state: usize, letter: u8) -> Vec<u8> {
         }
         Err(refusal) => refusal_line(refusal),
     }
+}
+
+/// A call of a table as one line, a step by this letter or a start: `state`, the state and eight
+/// orders, zeros past the last module; or `refused` and the number. A start orders 1 to each
+/// module that runs.
+pub fn call_answer(state: usize, letter: Option<u8>, bytes: &[u8]) -> Vec<u8> {
+    let answer = match letter {
+        None => started(bytes),
+        Some(letter) => stepped(bytes, state, letter),
+    };
+    match answer {
+        Ok((state, mut orders)) => {
+            orders.resize(MOST_NAMES, 0);
+            let orders: String = orders.iter().map(|order| format!(" {order}")).collect();
+            format!("state {state}{orders}\n").into_bytes()
+        }
+        Err(refusal) => format!("refused {}\n", refusal.number).into_bytes(),
+    }
+}
+
+/// The start of a table as a state and orders.
+fn started(bytes: &[u8]) -> Result<(usize, Vec<u8>), Refusal> {
+    let table = Table::read(bytes)?;
+    let running = table.running();
+    let order = |module: &u8| u8::from(running.contains(module));
+    Ok((0, table.modules().iter().map(order).collect()))
+}
+
+/// The step of a table as a state and orders.
+fn stepped(bytes: &[u8], state: usize, letter: u8) -> Result<(usize, Vec<u8>), Refusal> {
+    let step = table_step(bytes, state, letter)?;
+    let orders = step.orders.iter().map(|order| *order as u8);
+    Ok((step.next, orders.collect()))
 }

@@ -5,7 +5,8 @@ use std::io::{self, BufRead, BufReader, Read, Write};
 use std::process::ExitCode;
 
 use twin::answer::{
-    compile_answer, reading_answer, table_start_answer, table_step_answer, trace_answer,
+    call_answer, compile_answer, reading_answer, table_start_answer, table_step_answer,
+    trace_answer,
 };
 use twin::limits::Edition;
 
@@ -17,10 +18,15 @@ const USAGE: &str = "usage, the file or table on standard input:
   twin table-step STATE LETTER-BYTE   one step of a table, two decimal numbers
   twin batch                          records `EDITION LENGTH`, line end, LENGTH bytes
   twin stream WHAT                    frames of two length bytes, high first, and as many bytes;
-                                      WHAT is basic, adaptive, reading-basic or reading-adaptive";
+                                      WHAT is basic, adaptive, reading-basic or reading-adaptive
+  twin stream tables                  calls of tables: a byte, 0 for start; two for the state, high
+                                      first; the letter; two length bytes, high first; the table";
 
 /// The longest record line that can be right: an edition, a space, a number, a line end.
 const LONGEST_RECORD_LINE: u64 = 64;
+
+/// The bytes of a table's call before the table.
+const CALL_BYTES: usize = 6;
 
 /// An answer to the bytes of a file.
 type Answerer = fn(&[u8]) -> Vec<u8>;
@@ -33,6 +39,7 @@ enum Command {
     TableStep(usize, u8),
     Batch,
     Stream(Answerer),
+    Tables,
 }
 
 /// Status 0 for every answer, refusals too; 2 and a message if there is none.
@@ -67,6 +74,7 @@ fn command() -> Option<Command> {
             Some(Command::TableStep(decimal(state)?, letter))
         }
         ["batch"] => Some(Command::Batch),
+        ["stream", "tables"] => Some(Command::Tables),
         ["stream", what] => answerer(what).map(Command::Stream),
         [name] => edition(name).map(Command::Compile),
         _ => None,
@@ -107,6 +115,7 @@ fn run(command: Command) -> Result<(), String> {
     let answer = match command {
         Command::Batch => return batch(),
         Command::Stream(answer) => stream(&standard_input()?, answer)?,
+        Command::Tables => tables(&standard_input()?)?,
         Command::Compile(edition) => compile_answer(&standard_input()?, edition),
         Command::Trace(letters) => trace_answer(&standard_input()?, &letters),
         Command::TableStart => table_start_answer(&standard_input()?),
@@ -131,6 +140,31 @@ fn stream(input: &[u8], answer: Answerer) -> Result<Vec<u8>, String> {
 fn next_frame(bytes: &[u8]) -> Option<&[u8]> {
     let length = usize::from(*bytes.first()?) * 256 + usize::from(*bytes.get(1)?);
     bytes.get(2..2 + length)
+}
+
+/// The answers to all calls of tables in the input, one after the other.
+fn tables(input: &[u8]) -> Result<Vec<u8>, String> {
+    let mut out = Vec::new();
+    let mut rest = input;
+    while !rest.is_empty() {
+        let (call, table) = next_call(rest).ok_or("the last frame is cut short")?;
+        let letter = if call[0] == 0 { None } else { Some(call[3]) };
+        out.extend(call_answer(two_bytes(&call[1..3]), letter, table));
+        rest = &rest[CALL_BYTES + table.len()..];
+    }
+    Ok(out)
+}
+
+/// The call that the bytes begin with, and its table; `None` if they end before it does.
+fn next_call(bytes: &[u8]) -> Option<(&[u8], &[u8])> {
+    let call = bytes.get(..CALL_BYTES)?;
+    let length = two_bytes(&call[4..]);
+    Some((call, bytes.get(CALL_BYTES..CALL_BYTES + length)?))
+}
+
+/// The number of two bytes, high first.
+fn two_bytes(bytes: &[u8]) -> usize {
+    bytes.iter().fold(0, |n, byte| n * 256 + usize::from(*byte))
 }
 
 /// All bytes of standard input.

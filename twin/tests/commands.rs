@@ -241,3 +241,36 @@ fn stream() {
     complains(&["stream", "trace"], &frames, "usage");
     complains(&["stream"], &frames, "usage");
 }
+
+/// One call of a table in a stream: 0 for start, the state, the letter.
+fn call(kind: u8, state: u16, letter: u8, table: &[u8]) -> Vec<u8> {
+    let mut out = vec![kind];
+    out.extend(state.to_be_bytes());
+    out.push(letter);
+    out.extend(frame(table));
+    out
+}
+
+#[test]
+fn stream_of_tables() {
+    let calls = [
+        call(0, 7, b'x', TABLE),
+        call(1, 0, b'a', TABLE),
+        call(1, 0, b'E', TABLE),
+        call(9, 1, b'a', TABLE),
+        call(1, 1, b'A', TABLE),
+        call(1, 258, b'a', TABLE),
+        call(1, 0, b'a', &TABLE[1..]),
+        call(0, 0, 0, b""),
+    ]
+    .concat();
+    prints(
+        &["stream", "tables"],
+        &calls,
+        "state 0 1 0 0 0 0 0 0 0\nstate 1 0 0 0 0 0 0 0 0\nstate 1 3 0 0 0 0 0 0 0\n\
+         refused 22\nrefused 21\nrefused 20\nrefused 19\nrefused 19\n",
+    );
+    prints(&["stream", "tables"], b"", "");
+    complains(&["stream", "tables"], &calls[..5], "cut short");
+    complains(&["stream", "tables"], &calls[..16], "cut short");
+}
