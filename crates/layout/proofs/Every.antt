@@ -1,6 +1,5 @@
 -- Laws of `every`: what it says at each number, what a loop over it needs, and how it goes through `&&`, a sum of counts and equal tests. By induction
--- on the count.
--- Assumes nothing.
+-- on the count. Assumes nothing.
 use Prim.Native.Nat.{ℕ, zero, suc, _+_, _<_}
 use mathlib.Core.Path.{_≡_, refl, sym, ap, ap₂, _∙_}
 use mathlib.Core.Bool.{Bool, true, false, _&&_, and-true, and-false, and-assoc}

@@ -12,3 +12,4 @@ pub mod Sound
 pub mod Complete
 pub mod Law
 pub mod Answers
+pub mod First
