@@ -15,6 +15,7 @@ pub mod Means
 pub mod Grown
 pub mod Laws
 pub mod Parts
+pub mod ByTerm
 -- ---- place by place, as the code goes
 pub mod Runs
 pub mod Going
