@@ -1,0 +1,1 @@
+// The live state's 128 bytes: definitions and theorems only.
