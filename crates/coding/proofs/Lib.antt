@@ -1,1 +1,3 @@
 -- What is proved of the coding.
+pub mod Found
+pub mod Words

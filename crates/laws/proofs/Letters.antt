@@ -83,7 +83,7 @@ and-false true = refl
 and-false false = refl
 
 -- what stands in what was kept: it stands in the list and passes
-has-keep : (q : ℕ → Bool) (n : ℕ) (xs : List ℕ) → has n (keep q xs) ≡ (has n xs && q n)
+pub has-keep : (q : ℕ → Bool) (n : ℕ) (xs : List ℕ) → has n (keep q xs) ≡ (has n xs && q n)
 unfolding has keep
 has-keep q n [] = refl
 has-keep q n (x ∷ xs) = go (eqb n x) (q x) refl refl (has-keep q n xs)

@@ -14,15 +14,15 @@ use Rattle.paper.specs.Discovery.{Reach}
 use Rattle.laws.specs.Names.{uses, usesI, usesL, nowhere, usesModule, usesModuleL, usesEvent, usesEventI, usesEventL}
 use Rattle.laws.proofs.Kept.{both-ways, sideL, settled-keeps, reaction-keeps, reach-keeps}
 
-or-in-left : (a b : Bool) → T a → T (a || b)
+pub or-in-left : (a b : Bool) → T a → T (a || b)
 or-in-left true b t = tt
 or-in-left false b t = absurd t
 
-or-in-right : (a b : Bool) → T b → T (a || b)
+pub or-in-right : (a b : Bool) → T b → T (a || b)
 or-in-right true b t = tt
 or-in-right false b t = t
 
-or-each : (a b c : Bool) → (T a → T c) → (T b → T c) → T (a || b) → T c
+pub or-each : (a b c : Bool) → (T a → T c) → (T b → T c) → T (a || b) → T c
 or-each true b c f g t = f tt
 or-each false b c f g t = g t
 

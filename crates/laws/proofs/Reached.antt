@@ -22,7 +22,7 @@ use Rattle.paper.proofs.Settles.{Quiet, settled-quiet}
 use Rattle.laws.proofs.Letters.{by-cond, false-not, has-here, has-there, has-more, has-without, Once, once-without, once-more, keep-none, keep-same, keep-own}
 
 -- what holds of each of the three things that an occurrence can do holds of it: taken, nothing changes, appended
-by-occurred : (p : Program) (e : ℕ) (t : Term) (m : List ℕ) (P : Held → Type 0) → P (settled (taken e t) m) → P (held (still t) m) → (has e (p .fugitive) ≡ false → has e m ≡ false → armed e t ≡ false → P (held (still t) (m ++ e ∷ []))) → P (occurred p e t m)
+pub by-occurred : (p : Program) (e : ℕ) (t : Term) (m : List ℕ) (P : Held → Type 0) → P (settled (taken e t) m) → P (held (still t) m) → (has e (p .fugitive) ≡ false → has e m ≡ false → armed e t ≡ false → P (held (still t) (m ++ e ∷ []))) → P (occurred p e t m)
 unfolding occurred
 by-occurred p e t m P takes same adds =
     by-cond P (has e (p .fugitive)) _ _
@@ -94,7 +94,7 @@ settle-keeps P z w (suc n) (still t) m h =
 abbrev pub Memory : Program → List ℕ → Type 0
 Memory p m = Once m × ((e : ℕ) → T (has e m) → T (has e (p .events)) × (has e (p .fugitive) ≡ false))
 
-memory-none : (p : Program) → Memory p []
+pub memory-none : (p : Program) → Memory p []
 unfolding Once has
 memory-none p = (tt, λ e h. absurd h)
 
@@ -107,7 +107,7 @@ memory-more p e m h a f n = (
   λ x k. ⊎-elim (h .1 x) (λ q. subst (λ (y : ℕ). T (has y (p .events)) × (has y (p .fugitive) ≡ false)) (sym q) (a, f)) (has-more x e m k),
 )
 
-moved-memory : (p : Program) (l : Letter) (r : Left) (m : List ℕ) → Among l (letters p) → Memory p m → Memory p (moved p l r m .memory)
+pub moved-memory : (p : Program) (l : Letter) (r : Left) (m : List ℕ) → Among l (letters p) → Memory p m → Memory p (moved p l r m .memory)
 unfolding moved letters settled
 moved-memory p (completion c) gone m a h = h
 moved-memory p (occurrence e) gone m a h = h
@@ -126,14 +126,14 @@ reach-memory p s begin = memory-none p
 reach-memory p s (next {s = r} l a q k) = moved-memory p l (r .left) (r .memory) a (reach-memory p r k)
 
 -- the set is the program's modules that stand in it, in their order
-abbrev Own : Program → List ℕ → Type 0
+abbrev pub Own : Program → List ℕ → Type 0
 Own p ms = ms ≡ keep (λ m. has m ms) (p .modules)
 
-own-none : (p : Program) → Own p []
+pub own-none : (p : Program) → Own p []
 unfolding has
 own-none p = sym (keep-none (p .modules))
 
-stopped-own : (p : Program) (l : Letter) (s : State) (r : Left) → Own p (stoppedAfter p l s r)
+pub stopped-own : (p : Program) (l : Letter) (s : State) (r : Left) → Own p (stoppedAfter p l s r)
 unfolding stoppedAfter
 stopped-own p l s gone = own-none p
 stopped-own p l s (still t) = sym (keep-own (λ m. stays (isOwn l m) (runsL m (s .left)) (runsL m (still t)) (has m (s .stopped))) (p .modules))

@@ -24,12 +24,12 @@ pub and-both : (a b : Bool) → T a → T b → T (a && b)
 and-both true b t u = u
 and-both false b t u = t
 
-yes-is : {A : Type 0} (d : Dec A) → T (isYes d) → A
+pub yes-is : {A : Type 0} (d : Dec A) → T (isYes d) → A
 unfolding isYes
 yes-is (yes p) t = p
 yes-is (no q) t = absurd t
 
-is-yes : {A : Type 0} (d : Dec A) → A → T (isYes d)
+pub is-yes : {A : Type 0} (d : Dec A) → A → T (isYes d)
 unfolding isYes
 is-yes (yes p) a = tt
 is-yes (no q) a = q a
