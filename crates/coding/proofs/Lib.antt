@@ -1,3 +1,6 @@
 -- What is proved of the coding.
 pub mod Found
 pub mod Words
+pub mod Bytes
+pub mod Fit
+pub mod Coded
