@@ -80,6 +80,15 @@ module _ (w : List ℕ) (k : ℕ) (m : List ℕ) where
       at-byte (122 + j) (omega arith)
       ∙ rw (le-ltb (122 + j) 96 (omega arith), le-ltb (122 + j) 120 (omega arith), ne-eqb (122 + j) 120 (λ q. omega arith), ne-eqb (122 + j) 121 (λ q. omega arith), lt-ltb (122 + j) 126 (omega arith), e)
 
+  pub at-spare : (i : ℕ) → 126 ≤ i → getD (bytesOf w k m) i 0 ≡ 0
+  unfolding byteOf
+  at-spare i h =
+      by-lt i 128
+      (λ u.
+      at-byte i u
+      ∙ rw (le-ltb i 96 (omega arith), le-ltb i 120 (omega arith), ne-eqb i 120 (λ q. omega arith), ne-eqb i 121 (λ q. omega arith), le-ltb i 126 h))
+      (λ u. List·getD-eq-default (bytesOf w k m) 0 {n = i} (omega (arith, bytes-long)))
+
   -- ---- the word
 
   module _ (small : (i : ℕ) → getD w i 0 < 1024) where

@@ -4,3 +4,6 @@ pub mod Words
 pub mod Bytes
 pub mod Fit
 pub mod Coded
+pub mod Closed
+pub mod Accepted
+pub mod Right

@@ -27,7 +27,7 @@ or-each true b c f g t = f tt
 or-each false b c f g t = g t
 
 -- side by side
-or-both : (a b c d : Bool) → (T a → T c) → (T b → T d) → T (a || b) → T (c || d)
+pub or-both : (a b c d : Bool) → (T a → T c) → (T b → T d) → T (a || b) → T (c || d)
 or-both a b c d f g t = or-each a b (c || d) (λ u. or-in-left c d (f u)) (λ u. or-in-right c d (g u)) t
 
 module _ (f g : ℕ → Bool) where
