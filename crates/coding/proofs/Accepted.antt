@@ -2,16 +2,16 @@
 -- room is small; the modules that its term uses stand in the text, and no ninth of them does. Assumes nothing.
 --     Accepted p            where the program p came from: what the lines gave, the text's value and its tree, with no condition of No. 9 to 14
 --     accepted-fit          so it fits
-use Prim.Native.Nat.{ℕ, zero, suc, _+_, _≤_, _<_}
+use Prim.Native.Nat.{ℕ, zero, suc, _≤_, _<_}
 use mathlib.Core.Bool.{Bool, true, false, _&&_, _||_}
-use mathlib.Core.List.{List, [], _∷_, _++_}
+use mathlib.Core.List.{List, [], _∷_}
 use mathlib.Core.Option.{Option, none, some}
 use mathlib.Core.Path.{_≡_, refl, sym, ap, subst, _∙_}
 use native.Mathlib.Omega.{arith}
 use lib.Dec.{T, eqb, ltb, eqb→eq, eqb-refl}
 use lib.ListN.{length, getElem?}
 use borrow.Author.Tests.{le-leb}
-use Rattle.paper.specs.Lists.{has, keep, from, below}
+use Rattle.paper.specs.Lists.{has, keep, below}
 use Rattle.paper.specs.Bytes.{dotMark, slashMark}
 use Rattle.paper.specs.Grammar.{Sequence, moduleByte, printS, printed}
 use Rattle.paper.specs.Parse.{Parsed, program, stops, parse}
@@ -21,13 +21,11 @@ use Rattle.paper.specs.Term.{Term, termS}
 use Rattle.paper.specs.Reaction.{Program}
 use Rattle.paper.specs.Refusals.{adaptive, mostBytes, programOf, programmed, withProgram, reading}
 use Rattle.paper.proofs.Choices.{clash}
-use Rattle.paper.proofs.Equal.{and-left, and-both}
 use Rattle.laws.specs.Names.{uses, usesI, nowhere, usesModule}
 use Rattle.laws.specs.Nodes.{Nodes, Apart, kind, letter, count}
 use Rattle.laws.specs.Placed.{Tree, leaf, size, placedS}
-use Rattle.laws.proofs.Letters.{has-here, has-there, has-keep}
 use Rattle.laws.proofs.Names.{or-in-left, or-in-right, or-each, or-both}
-use Rattle.laws.proofs.Ordered.{checks, first, Clear, programmed-first, first-accepts}
+use Rattle.laws.proofs.Ordered.{checks, Clear, programmed-first, first-accepts}
 use Rattle.laws.proofs.Parsing.{parse-program}
 use Rattle.laws.proofs.Tokens.{room-below}
 use Rattle.limits.specs.Nodes.{isStar as isStarCode, isJoin, sharing}
@@ -41,8 +39,9 @@ use Rattle.nodes.proofs.Choice.{by-eq}
 use Rattle.nodes.proofs.Means.{Meaning, aTerm, anIntr, Means, isMod, isOne, isSeq, isPar, isStar, isAct, isEvent, isTreat, isEither, isBoth, means-S}
 use Rattle.nodes.proofs.Laws.{made-root, made-stands, size-below}
 use Rattle.nodes.proofs.Parts.{made-module}
-use Rattle.nodes.proofs.Table.{Table, lettered}
+use Rattle.nodes.proofs.Table.{lettered}
 use Rattle.coding.specs.Units.{IsTerm}
+use Rattle.coding.proofs.Letters.{has-first, kept-below, below-kept}
 use Rattle.coding.proofs.Fit.{Fit}
 
 -- ---- where the program came from
@@ -94,11 +93,6 @@ few-tokens at v e = none-there (tokens at v) 96 e
 
 -- ---- a module that the term uses stands in the text
 
-has-first : (x : ℕ) (v w : List ℕ) → T (has x v) → T (has x (v ++ w))
-unfolding has
-has-first x [] w t = absurd t
-has-first x (y ∷ v) w t = or-both (eqb x y) (has x v) (eqb x y) (has x (v ++ w)) (λ h. h) (has-first x v w) t
-
 module _ (m : ℕ) where
   abbrev usesM : Meaning → Bool
   usesM (aTerm x) = usesModule m x
@@ -139,30 +133,6 @@ module _ (m : ℕ) where
 
 -- ---- what it is to the coding
 
-has-below : (n k l : ℕ) → k ≤ l → l < k + n → T (has l (from k n))
-unfolding from
-has-below zero k l a b = absurd (omega arith)
-has-below (suc n) k l a b = by-eq l k (λ e. has-here l k (from (suc k) n) (subst (λ (x : ℕ). T (eqb l x)) e (eqb-refl l))) (λ d. has-there l k (from (suc k) n) (has-below n (suc k) l (omega arith) (omega arith)))
-
-below-has : (n k l : ℕ) → T (has l (from k n)) → l < k + n
-unfolding from has
-below-has zero k l t = absurd t
-below-has (suc n) k l t =
-    by-or (eqb l k) (has l (from (suc k) n)) t (λ h. omega (arith, eqb→eq l k h)) (λ h. omega (arith, below-has n (suc k) l h))
-  where
-    by-or : {A : Type 0} (a b : Bool) → T (a || b) → (T a → A) → (T b → A) → A
-    by-or true b t f g = f tt
-    by-or false b t f g = g t
-
--- the letters of a text: below 26, and those that stand in it
-letter-small : (q : ℕ → Bool) (l : ℕ) → T (has l (keep q (below 26))) → l < 26
-unfolding below
-letter-small q l t = below-has 26 0 l (and-left (has l (below 26)) (q l) (subst T (has-keep q l (below 26)) t))
-
-letter-kept : (q : ℕ → Bool) (l : ℕ) → l < 26 → T (q l) → T (has l (keep q (below 26)))
-unfolding below
-letter-kept q l h t = subst T (sym (has-keep q l (below 26))) (and-both (has l (below 26)) (q l) (has-below 26 0 l (omega arith) (omega arith)) t)
-
 -- a table of nodes with the term t as a node, whose modules are among ms
 record Noded (ms : List ℕ) (t : Term) (P : List ℕ) : Type 0 where
   nodes : Nodes P
@@ -193,7 +163,7 @@ module _ (at : ℕ) (s : Sequence) (few : length (tokens at (printed s)) ≤ 96)
             λ i h k.
             let a = letter (made (placedS at s) .table) i in
             let b = module-letter i h k in
-            letter-kept (λ n. has (moduleByte n) (printed s)) a b (module-printed a b at s (made-module at s small i h k));
+            below-kept (λ n. has (moduleByte n) (printed s)) 26 a b (module-printed a b at s (made-module at s small i h k));
       }
 
   -- the same of the table as the term makes it
@@ -211,7 +181,7 @@ program-fit r at v s e c =
       apart = n .apart;
       root = n .root;
       owned = n .owned;
-      letters = letter-small (λ k. has (moduleByte k) v);
+      letters = kept-below (λ k. has (moduleByte k) v) 26;
       few-modules = ninth-few 97 at v (c .1 .1 .1 .1 .1 .0);
       few-events = ninth-few 65 at v (c .1 .1 .1 .1 .1 .1 .0);
       light = omega (arith, room-below at s, few);

@@ -55,7 +55,7 @@ module _ (w : List ℕ) (k : ℕ) (m : List ℕ) where
   unfolding bytesOf
   at-byte i h = at-tab (byteOf w k m) 128 i h
 
-  at-low : (i : ℕ) → i < 96 → getD (bytesOf w k m) i 0 ≡ low w i
+  pub at-low : (i : ℕ) → i < 96 → getD (bytesOf w k m) i 0 ≡ low w i
   unfolding byteOf
   at-low i h = at-byte i (omega arith) ∙ rw (lt-ltb i 96 h)
 
@@ -118,7 +118,7 @@ module _ (w : List ℕ) (k : ℕ) (m : List ℕ) where
         subst (λ (n : ℕ). high w (i / 4) / 1 % 4 ≡ highOf w n) p (omega arith)
     digit i (suc (suc (suc (suc r)))) e = absurd (omega arith)
 
-    unit-back : (i : ℕ) → i < 96 → unitIn (bytesOf w k m) i ≡ getD w i 0
+    pub unit-back : (i : ℕ) → i < 96 → unitIn (bytesOf w k m) i ≡ getD w i 0
     unit-back i h =
         let q : i / 4 < 24 = omega arith in
         let d = digit i (i % 4) refl in
@@ -143,7 +143,7 @@ module _ (w : List ℕ) (k : ℕ) (m : List ℕ) where
         subst (λ (n : ℕ). pair m (i / 2) / 1 % 16 ≡ getD m n 0) p (omega arith)
     half i (suc (suc r)) e = absurd (omega arith)
 
-    mark-back : (i : ℕ) → i < 8 → markIn (bytesOf w k m) i ≡ getD m i 0
+    pub mark-back : (i : ℕ) → i < 8 → markIn (bytesOf w k m) i ≡ getD m i 0
     mark-back i h = let q : i / 2 < 4 = omega arith in rw (at-pair (i / 2) q) (half i (i % 2) refl)
 
 -- ---- the stopped set
@@ -183,6 +183,11 @@ place-is (x ∷ xs) e h = go (eqb e x) refl h (place-is xs e)
         → (cond b 0 (suc (placeIn xs e)) < suc (length xs)) × (getD (x ∷ xs) (cond b 0 (suc (placeIn xs e))) 0 ≡ e)
     go true q t ih = (omega arith, sym (eqb-true e x q))
     go false q t ih = let r = ih t in (omega arith, r .1)
+
+pub marks-long : (es xs : List ℕ) → length (marksOf es xs) ≡ length xs
+unfolding marksOf
+marks-long es [] = refl
+marks-long es (x ∷ xs) = ap suc (marks-long es xs)
 
 pub marks-small : (es xs : List ℕ) → length es ≤ 8 → ((e : ℕ) → T (has e xs) → T (has e es)) → (i : ℕ) → getD (marksOf es xs) i 0 < 16
 unfolding marksOf

@@ -2,7 +2,6 @@
 -- are nodes (`node-over`, `hit-over`). Weight, memory and stopped set are kept as `laws` has it, and at the end memory and set are empty.
 -- Assumes nothing.
 use Prim.Native.Nat.{ℕ, zero, suc, _-_, _≤_, _<_}
-use mathlib.Core.Bool.{Bool, cond}
 use mathlib.Core.List.{List, []}
 use mathlib.Core.Path.{_≡_, refl, sym, ap, subst, _∙_}
 use native.Mathlib.Nat.{pos-of-ne-zero}
@@ -54,19 +53,24 @@ module _ (P : List ℕ) (ns : Nodes P) where
       (λ k. let s = sym (intr-both P ns j k) ∙ q in clash cc)
       (λ k. let s = sym k ∙ q in clash cc)
 
+  -- the two sides of a join
+  sides : (j : ℕ) → j < count P → (5 < kind P (left P j)) × (5 < kind P (right P j)) → IsIntr P (intr P (left P j)) × IsIntr P (intr P (right P j))
+  sides j h o =
+      let l = ns .lower j in
+      let r = ns .righter j in
+      ((left P j, (omega arith, (o .0, refl))), (right P j, (omega arith, (o .1, refl))))
+
   either-parts : {i₁ i₂ : Intr} → IsIntr P (Either i₁ i₂) → IsIntr P i₁ × IsIntr P i₂
   either-parts {i₁} {i₂} n =
       let j = n .0 in
       let q = n .1 .1 .1 in
-      let h = n .1 .0 in
       by-kind j
       (λ k. let s = sym (intr-treat P ns j k) ∙ q in clash cc)
       (λ k.
       let s : Either (intr P (left P j)) (intr P (right P j)) ≡ Either i₁ i₂ = sym (intr-either P ns j k) ∙ q in
-      let l = ns .lower j in
-      let r = ns .righter j in
-      let o = ns .of-either j h k in
-      ((left P j, (omega arith, (o .0, cc))), (right P j, (omega arith, (o .1, cc)))))
+      let a : intr P (left P j) ≡ i₁ = cc in
+      let b : intr P (right P j) ≡ i₂ = cc in
+      rw (← a, ← b) (sides j (n .1 .0) (ns .of-either j (n .1 .0) k)))
       (λ k. let s = sym (intr-both P ns j k) ∙ q in clash cc)
       (λ k. let s = sym k ∙ q in clash cc)
 
@@ -74,16 +78,14 @@ module _ (P : List ℕ) (ns : Nodes P) where
   both-parts {i₁} {i₂} n =
       let j = n .0 in
       let q = n .1 .1 .1 in
-      let h = n .1 .0 in
       by-kind j
       (λ k. let s = sym (intr-treat P ns j k) ∙ q in clash cc)
       (λ k. let s = sym (intr-either P ns j k) ∙ q in clash cc)
       (λ k.
       let s : Both (intr P (left P j)) (intr P (right P j)) ≡ Both i₁ i₂ = sym (intr-both P ns j k) ∙ q in
-      let l = ns .lower j in
-      let r = ns .righter j in
-      let o = ns .of-both j h k in
-      ((left P j, (omega arith, (o .0, cc))), (right P j, (omega arith, (o .1, cc)))))
+      let a : intr P (left P j) ≡ i₁ = cc in
+      let b : intr P (right P j) ≡ i₂ = cc in
+      rw (← a, ← b) (sides j (n .1 .0) (ns .of-both j (n .1 .0) k)))
       (λ k. let s = sym k ∙ q in clash cc)
 
 module _ (P ms : List ℕ) (ns : Nodes P) (owned : (i : ℕ) → i < count P → kind P i ≡ 0 → T (has (letter P i) ms)) where

@@ -1,14 +1,13 @@
 -- The first number that passes a test, and with it the node of a term or of an interruption: where some node is it, the first such node is found and
 -- is it, so the tests `over` say exactly what `Over` says. Assumes nothing.
 use Prim.Native.Nat.{ℕ, zero, suc, _+_, _≤_, _<_}
-use mathlib.Core.Bool.{Bool, true, false, _&&_}
+use mathlib.Core.Bool.{Bool, true}
 use mathlib.Core.List.{List}
-use mathlib.Core.Path.{_≡_, refl, sym, subst}
+use mathlib.Core.Path.{_≡_, sym, subst}
 use native.Mathlib.Decide.{ℕ-discrete}
 use native.Mathlib.Omega.{arith}
 use lib.Dec.{T, leb, ltb, leb→le, ltb→lt}
 use borrow.Author.Tests.{le-leb, lt-ltb}
-use Rattle.paper.specs.Lists.{has}
 use Rattle.paper.specs.Term.{Term, Intr, Left, Mod, One, Seq, Par, Star, Act, gone, still, eqT, Intr-discrete}
 use Rattle.paper.proofs.Equal.{and-left, and-right, and-both, yes-is, is-yes, eqT-sound, eqT-complete}
 use Rattle.laws.specs.Nodes.{kind, count, tree, intr}

@@ -2,8 +2,10 @@
 --     coding-right          the written set, its start and its steps, 128 bytes, and both ways back (`paper`, `Calls`: CodingRight)
 --     code-same             equal codes exactly for equal states of the set
 --     reach-written         every reachable state is in the set
---     code-small, code-spare, code-end      each number is a byte; the last two are zero; at the end all are
-use Prim.Native.Nat.{ℕ, _≤_, _<_}
+--     code-small            each number is a byte
+--     code-unused           "unused bytes zero": behind the word, behind the memory, the bits of no module, the last two bytes
+--     code-end              at the end all are zero
+use Prim.Native.Nat.{ℕ, _<_}
 use mathlib.Core.List.{List, [], _∷_}
 use mathlib.Core.Logic.{_↔_}
 use mathlib.Core.Path.{_≡_, refl, ap}
@@ -18,10 +20,9 @@ use Rattle.paper.specs.Refusals.{adaptive, reading}
 use Rattle.paper.specs.Calls.{CodingRight}
 use Rattle.coding.specs.Units.{wordL}
 use Rattle.coding.specs.Layout.{byteOf, bytesOf, setNumber, marksOf}
-use Rattle.coding.specs.Written.{nodesOf, Written}
+use Rattle.coding.specs.Written.{Written}
 use Rattle.coding.specs.Code.{code, coding}
-use Rattle.coding.proofs.Bytes.{at-spare}
-use Rattle.coding.proofs.Coded.{code-long, code-bytes, code-one, decode-code, code-decode}
+use Rattle.coding.proofs.Coded.{code-long, code-bytes, Unused, unused-zero, code-one, decode-code, code-decode}
 use Rattle.coding.proofs.Closed.{start-in, step-in}
 use Rattle.coding.proofs.Accepted.{accepted-fit}
 
@@ -47,9 +48,8 @@ module _ (file : List ℕ) (p : Program) (e : reading parse adaptive file ≡ ac
   pub code-small : (s : State) → Written p s → (i : ℕ) → getD (code p s) i 0 < 256
   code-small = code-bytes p (accepted-fit file p e)
 
-pub code-spare : (p : Program) (s : State) (i : ℕ) → 126 ≤ i → getD (code p s) i 0 ≡ 0
-unfolding code
-code-spare p s = at-spare (wordL (nodesOf p) (s .left)) (setNumber (p .modules) (s .stopped)) (marksOf (p .events) (s .memory))
+  pub code-unused : (s : State) → Written p s → Unused p s (code p s)
+  code-unused = unused-zero p (accepted-fit file p e)
 
 set-none : (ms : List ℕ) → setNumber ms [] ≡ 0
 unfolding setNumber has

@@ -1,20 +1,20 @@
 -- The word of a term and the term of a word (`words`, `Word`: Right, terms). Over a table of nodes the word of a term is right and says the term alone
--- (`over-says`), and a right word that says one term is that term's word (`word-over`): a right word is determined by what it says.
+-- (`over-says`), and a right word that says one term is that term's word (`word-over`, `right-word`): a right word is determined by what it says.
 -- It has at most as many units as the term has room (`word-long`), each below 796 (`right-small`). Assumes nothing.
 use Prim.Native.Nat.{ℕ, zero, suc, _+_, _-_, _≤_, _<_}
-use mathlib.Core.Bool.{Bool, true, false, _&&_, _||_}
+use mathlib.Core.Bool.{Bool, true, false, _||_}
 use mathlib.Core.List.{List, [], _∷_, _++_}
-use mathlib.Core.Path.{_≡_, refl, sym, ap, subst, _∙_}
+use mathlib.Core.Path.{_≡_, refl, sym, ap, _∙_}
 use native.Mathlib.Omega.{arith}
 use lib.Dec.{T, ltb}
 use lib.ListN.{length, getD, length-append}
 use borrow.Author.Tests.{lt-ltb, le-ltb}
-use Rattle.paper.specs.Lists.{has}
+use Rattle.paper.specs.Lists.{has, below}
 use Rattle.paper.specs.Term.{Term, Intr, Mod, One, Seq, Par, Star, Act, eqT}
 use Rattle.paper.proofs.Equal.{and-left, and-right, and-both, eqT-sound, eqT-complete}
-use Rattle.laws.specs.Nodes.{Nodes, Apart, kind, left, right, letter, count, tree, intr, asTerm}
+use Rattle.laws.specs.Nodes.{Nodes, Apart, kind, left, right, letter, tree, intr, asTerm}
 use Rattle.laws.specs.Weight.{weight, room}
-use Rattle.laws.proofs.Letters.{by-cond, false-not}
+use Rattle.laws.proofs.Letters.{false-not}
 use Rattle.nodes.proofs.Apart.{of-terms}
 use Rattle.words.specs.Word.{Mark, uSeq, uStar, uAct, uWait, uOne, uPar, uMod, mark, hd, tl, apply, terms, Fine, Right}
 use Rattle.words.proofs.Marks.{by-lt, clash, mark-seq, mark-star, mark-act, mark-wait, mark-one, mark-par, mark-mod, unmark, unmark-mark}
@@ -22,7 +22,8 @@ use Rattle.words.proofs.Trees.{tree-is, tree-star}
 use Rattle.words.proofs.Holding.{terms-app, right-app}
 use Rattle.words.proofs.Determined.{tl-long, inj}
 use Rattle.words.proofs.Drawing.{weighs}
-use Rattle.coding.specs.Units.{nodeOf, intrOf, wordOf, IsTerm, IsIntr, Over, owns}
+use Rattle.coding.specs.Units.{nodeOf, intrOf, acting, wordOf, IsTerm, IsIntr, Over, owns}
+use Rattle.coding.proofs.Letters.{has-below, below-has}
 use Rattle.coding.proofs.Found.{holds, node-found, node-is, intr-found, intr-is}
 
 -- the word us is right, and says t alone
@@ -93,6 +94,10 @@ module _ (P ms : List ℕ) (ns : Nodes P) (small : (m : ℕ) → T (has m ms) �
   unfolding Fine apply Right terms
   one-says = unit-says 768 uOne mark-one tt refl tt refl
 
+  acting-says : {x : Term} {us : List ℕ} (i : Intr) (b : Bool) → eqT x One ≡ b → Says P us x → IsIntr P i → Says P (acting b (intrOf P i) us) (Act x i)
+  acting-says {x} i true e s n = rw (eqT-sound x One (holds (eqT x One) e)) (wait-says i n)
+  acting-says {x} i false e s n = act-says i (λ q. false-not (eqT x One) e (eqT-complete x One q)) s n
+
   pub over-says : (t : Term) → Over P ms t → Says P (wordOf P t) t
   unfolding Over wordOf
   over-says (Mod m) o = mod-says m (small m o)
@@ -100,10 +105,7 @@ module _ (P ms : List ℕ) (ns : Nodes P) (small : (m : ℕ) → T (has m ms) �
   over-says (Seq x y) o = seq-says (over-says x (o .0)) (o .1)
   over-says (Par x y) o = par-says (wordOf P x) (wordOf P y) (over-says x (o .0)) (over-says y (o .1))
   over-says (Star x) o = star-says (over-says x (o .0)) (o .1)
-  over-says (Act x i) o =
-      by-cond (λ w. Says P w (Act x i)) (eqT x One) ((576 + intrOf P i) ∷ []) ((384 + intrOf P i) ∷ wordOf P x)
-      (λ e. rw (eqT-sound x One (holds (eqT x One) e)) (wait-says i (o .1)))
-      (λ e. act-says i (λ q. false-not (eqT x One) e (eqT-complete x One q)) (over-says x (o .0)) (o .1))
+  over-says (Act x i) o = acting-says i (eqT x One) refl (over-says x (o .0)) (o .1)
 
 -- ---- its units
 
@@ -114,10 +116,11 @@ word-long P One = omega arith
 word-long P (Seq x y) = omega (arith, word-long P x)
 word-long P (Par x y) = omega (arith, word-long P x, word-long P y, length-append (wordOf P x) (wordOf P y))
 word-long P (Star x) = omega (arith, word-long P x)
-word-long P (Act x i) =
-    by-cond (λ w. length w ≤ room (Act x i)) (eqT x One) ((576 + intrOf P i) ∷ []) ((384 + intrOf P i) ∷ wordOf P x)
-    (λ e. omega arith)
-    (λ e. omega (arith, word-long P x, weighs x (λ q. false-not (eqT x One) e (eqT-complete x One q))))
+word-long P (Act x i) = go (eqT x One) refl (word-long P x)
+  where
+    go : (b : Bool) → eqT x One ≡ b → length (wordOf P x) ≤ room x → length (acting b (intrOf P i) (wordOf P x)) ≤ room (Act x i)
+    go true e h = omega arith
+    go false e h = omega (arith, weighs x (λ q. false-not (eqT x One) e (eqT-complete x One q)))
 
 fine-small : (P : List ℕ) (u : ℕ) (ts : List Term) → Fine P (mark u) ts → u < 796
 unfolding Fine
@@ -142,6 +145,11 @@ owns-other : (ms : List ℕ) (u : ℕ) (us : List ℕ) → u < 770 → T (owns m
 unfolding owns
 owns-other ms u us h o = rw (lt-ltb u 770 h) o
 
+owns-acting : (ms : List ℕ) (b : Bool) (j : ℕ) (us : List ℕ) → j < 192 → T (owns ms us) → T (owns ms (acting b j us))
+unfolding owns
+owns-acting ms true j us h o = owns-other ms (576 + j) [] (omega arith) tt
+owns-acting ms false j us h o = owns-other ms (384 + j) us (omega arith) o
+
 module _ (P ms : List ℕ) (ns : Nodes P) where
   pub over-owns : (t : Term) → Over P ms t → T (owns ms (wordOf P t))
   unfolding Over wordOf owns
@@ -154,10 +162,7 @@ module _ (P ms : List ℕ) (ns : Nodes P) where
   over-owns (Star x) o =
       owns-other ms (192 + nodeOf P (Star x)) (wordOf P x) (omega (arith, ns .few, node-found P (o .1))) (over-owns x (o .0))
   over-owns (Act x i) o =
-      let h = intr-found P (o .1) in
-      by-cond (λ w. T (owns ms w)) (eqT x One) ((576 + intrOf P i) ∷ []) ((384 + intrOf P i) ∷ wordOf P x)
-      (λ e. owns-other ms (576 + intrOf P i) [] (omega (arith, ns .few)) tt)
-      (λ e. owns-other ms (384 + intrOf P i) (wordOf P x) (omega (arith, ns .few)) (over-owns x (o .0)))
+      owns-acting ms (eqT x One) (intrOf P i) (wordOf P x) (omega (arith, ns .few, intr-found P (o .1))) (over-owns x (o .0))
 
   -- each of the terms is over the nodes and the modules
   unfoldable Overs : List Term → Type 0
@@ -207,3 +212,17 @@ module _ (P ms : List ℕ) (ns : Nodes P) where
       let o : Overs (t ∷ []) = rw (s .term) at (right-over us (s .ok) h) in
       let w = over-says P ms ns small t (o .0) in
       (o .0, inj P ns ap′ (wordOf P t) us (w .ok) (s .ok) (w .term ∙ sym (s .term)))
+
+-- the modules of a right word are a to z
+right-owns : (P us : List ℕ) → Right P us → T (owns (below 26) us)
+unfolding Right owns
+right-owns P [] r = tt
+right-owns P (u ∷ us) r =
+    and-both (ltb u 770 || has (u - 770) (below 26)) (owns (below 26) us)
+    (by-lt u 770 (λ h. rw (lt-ltb u 770 h) tt)
+    (λ h. rw (le-ltb u 770 h) (has-below 26 (u - 770) (let b = fine-small P u (terms P us) (r .1) in omega arith))))
+    (right-owns P us (r .0))
+
+-- a right word that says a term is its word, whatever its modules
+pub right-word : (P : List ℕ) → Nodes P → Apart P → (us : List ℕ) (t : Term) → Says P us t → wordOf P t ≡ us
+right-word P ns ap′ us t s = word-over P (below 26) ns ap′ (below-has 26) us t s (right-owns P us (s .ok)) .1

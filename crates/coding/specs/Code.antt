@@ -1,11 +1,12 @@
 -- The coding of the live state. Document 01: "The live state is 128 bytes with a one-to-one coding that the team writes down, unused bytes zero".
 --     code p s              the 128 bytes of the state s of the program p
 --     said p b              the state that the bytes b say, whatever they are
---     decode p b            that state, where it is in the written set and b are its bytes
+--     codes p s b           s is in the written set, and b are its bytes
+--     decode p b            the state that b say, where they are its bytes
 --     coding                the two as one (`paper`, `Calls`: Coding)
 -- Not here: that it is right (the proofs' `Coded`). Assumes nothing.
 use Prim.Native.Nat.{ℕ}
-use mathlib.Core.Bool.{cond, _&&_}
+use mathlib.Core.Bool.{Bool, cond, _&&_}
 use mathlib.Core.List.{List}
 use mathlib.Core.Option.{Option, none, some}
 use lib.ListN.{getD}
@@ -29,8 +30,11 @@ said p b = record {
   stopped = setOf (p .modules) (getD b 121 0);
 }
 
+unfoldable pub codes : Program → State → List ℕ → Bool
+codes p s b = inSet p s && eqL (code p s) b
+
 unfoldable pub decode : Program → List ℕ → Option State
-decode p b = let s = said p b in cond (inSet p s && eqL (code p s) b) (some s) none
+decode p b = let s = said p b in cond (codes p s b) (some s) none
 
 abbrev pub coding : Coding
 coding = record { code = code; decode = decode }

@@ -8,7 +8,7 @@
 --     owns ms us            each module's unit in the word us is of one of ms
 -- Assumes nothing.
 use Prim.Native.Nat.{ℕ, zero, suc, _+_, _-_, _≤_, _<_}
-use mathlib.Core.Bool.{Bool, true, cond, _&&_, _||_}
+use mathlib.Core.Bool.{Bool, true, false, cond, _&&_, _||_}
 use mathlib.Core.List.{List, [], _∷_, _++_}
 use mathlib.Core.Path.{_≡_}
 use native.Mathlib.Decide.{ℕ-discrete}
@@ -38,14 +38,18 @@ nodeOf P t = first (isTerm P t) 0 (count P)
 unfoldable pub intrOf : List ℕ → Intr → ℕ
 intrOf P i = first (isIntr P i) 0 (count P)
 
--- `1/i` is one unit
+-- `/` with the interruption j, before the word of its first part; where that is `1`, in its place
+abbrev pub acting : (isOne : Bool) → ℕ → List ℕ → List ℕ
+acting true j w = (576 + j) ∷ []
+acting false j w = (384 + j) ∷ w
+
 unfoldable pub wordOf : List ℕ → Term → List ℕ
 wordOf P (Mod m) = (770 + m) ∷ []
 wordOf P One = 768 ∷ []
 wordOf P (Seq x y) = nodeOf P y ∷ wordOf P x
 wordOf P (Par x y) = 769 ∷ (wordOf P x ++ wordOf P y)
 wordOf P (Star x) = (192 + nodeOf P (Star x)) ∷ wordOf P x
-wordOf P (Act x i) = cond (eqT x One) ((576 + intrOf P i) ∷ []) ((384 + intrOf P i) ∷ wordOf P x)
+wordOf P (Act x i) = acting (eqT x One) (intrOf P i) (wordOf P x)
 
 -- nothing left is no unit
 unfoldable pub wordL : List ℕ → Left → List ℕ

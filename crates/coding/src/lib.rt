@@ -1,1 +1,1 @@
-// The live state's 128 bytes: definitions and theorems only.
+// The live state's 128 bytes, as definitions in specs/ and theorems in proofs/. No code.

@@ -7,7 +7,7 @@ use mathlib.Core.List.{List}
 use mathlib.Core.Path.{_≡_, refl}
 use native.Mathlib.Omega.{arith}
 use Rattle.paper.specs.Grammar.{Sequence}
-use Rattle.paper.specs.Term.{Event, termS}
+use Rattle.paper.specs.Term.{termS}
 use Rattle.laws.specs.Placed.{Tree, placedS}
 use Rattle.nodes.specs.Made.{Made, codeKind, nodeBy, grown, start, made}
 use Rattle.nodes.specs.ByTerm.{grownT, grownI, madeOf}
