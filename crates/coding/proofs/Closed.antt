@@ -181,10 +181,6 @@ moved-end p (completion a) (still t) m h e = settled-end (settled (completed a t
 moved-end p (occurrence x) (still t) m h e =
     by-occurred p x t m (λ z. z .left ≡ gone → z .memory ≡ []) (settled-end (settled (taken x t) m) (settled-quiet (taken x t) m)) (λ q. clash (cc)) (λ f n u q. clash (cc)) e
 
-stopped-end : (p : Program) (l : Letter) (s : State) (r : Left) → r ≡ gone → stoppedAfter p l s r ≡ []
-unfolding stoppedAfter
-stopped-end p l s r e = rw e
-
 -- ---- the set
 
 module _ (p : Program) (f : Fit p) where
@@ -200,13 +196,13 @@ module _ (p : Program) (f : Fit p) where
       }
 
   pub step-in : (s : State) (l : Letter) → Written p s → Among l (letters p) → Written p (reaction p l s .state)
-  unfolding reaction
+  unfolding reaction stoppedAfter
   step-in s l w a =
       let r = moved p l (s .left) (s .memory) .left in
       record {
-        over = unfold reaction in reaction-keeps (OverL (nodesOf p) (p .modules)) (rewritten-over (nodesOf p) (p .modules) (f .nodes) (f .owned)) p l s (w .over);
+        over = reaction-keeps (OverL (nodesOf p) (p .modules)) (rewritten-over (nodesOf p) (p .modules) (f .nodes) (f .owned)) p l s (w .over);
         light = omega (arith, reaction-weighs p l s, w .light);
         memory = moved-memory p l (s .left) (s .memory) a (w .memory);
         stopped = stopped-own p l s r;
-        ended = λ e. (moved-end p l (s .left) (s .memory) (λ q. w .ended q .0) e, stopped-end p l s r e);
+        ended = λ e. (moved-end p l (s .left) (s .memory) (λ q. w .ended q .0) e, rw e);
       }

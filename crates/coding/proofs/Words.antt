@@ -37,7 +37,7 @@ unfolding Right terms
 unit-says u m e r s f a = record { ok = (r, rw (e, s) f); term = rw (e, s) a }
 
 -- a starred node has its part on the left
-pub star-node : (P : List ℕ) → Nodes P → (j : ℕ) (x : Term) → kind P j ≤ 5 → tree P j ≡ Star x → (kind P j ≡ 4) × (tree P (left P j) ≡ x)
+star-node : (P : List ℕ) → Nodes P → (j : ℕ) (x : Term) → kind P j ≤ 5 → tree P j ≡ Star x → (kind P j ≡ 4) × (tree P (left P j) ≡ x)
 unfolding asTerm
 star-node P ns j x k e =
     of-terms (λ n. asTerm n (letter P j) (tree P (left P j)) (tree P (right P j)) (intr P (right P j)) ≡ Star x → (n ≡ 4) × (tree P (left P j) ≡ x))
