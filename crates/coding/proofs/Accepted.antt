@@ -2,21 +2,21 @@
 -- room is small; the modules that its term uses stand in the text, and no ninth of them does. Assumes nothing.
 --     Accepted p            where the program p came from: what the lines gave, the text's value and its tree, with no condition of No. 9 to 14
 --     accepted-fit          so it fits
-use Prim.Native.Nat.{ℕ, zero, suc, _≤_, _<_}
+use Prim.Native.Nat.{ℕ, _≤_, _<_}
 use mathlib.Core.Bool.{Bool, true, false, _&&_, _||_}
-use mathlib.Core.List.{List, [], _∷_}
+use mathlib.Core.List.{List, _∷_, []}
 use mathlib.Core.Option.{Option, none, some}
 use mathlib.Core.Path.{_≡_, refl, sym, ap, subst, _∙_}
 use native.Mathlib.Omega.{arith}
 use lib.Dec.{T, eqb, ltb, eqb→eq, eqb-refl}
-use lib.ListN.{length, getElem?}
+use lib.ListN.{length}
 use borrow.Author.Tests.{le-leb}
 use Rattle.paper.specs.Lists.{has, keep, below}
 use Rattle.paper.specs.Bytes.{dotMark, slashMark}
 use Rattle.paper.specs.Grammar.{Sequence, moduleByte, printS, printed}
 use Rattle.paper.specs.Parse.{Parsed, program, stops, parse}
 use Rattle.paper.specs.File.{Answer, refused, accepted, unless, and-then, where-if, Value, Read, nothingRead, lines, readLines}
-use Rattle.paper.specs.Limits.{tokens, over96}
+use Rattle.paper.specs.Limits.{tokens}
 use Rattle.paper.specs.Term.{Term, termS}
 use Rattle.paper.specs.Reaction.{Program}
 use Rattle.paper.specs.Refusals.{adaptive, mostBytes, programOf, programmed, withProgram, reading}
@@ -27,7 +27,7 @@ use Rattle.laws.specs.Placed.{Tree, leaf, size, placedS}
 use Rattle.laws.proofs.Names.{or-in-left, or-in-right, or-each, or-both}
 use Rattle.laws.proofs.Ordered.{checks, Clear, programmed-first, first-accepts}
 use Rattle.laws.proofs.Parsing.{parse-program}
-use Rattle.laws.proofs.Tokens.{room-below}
+use Rattle.laws.proofs.Tokens.{room-below, few-tokens}
 use Rattle.limits.specs.Nodes.{isStar as isStarCode, isJoin, sharing}
 use Rattle.limits.proofs.Few.{ninth-few}
 use Rattle.limits.proofs.Least.{fold}
@@ -79,17 +79,6 @@ reading-accepted file p e = go (ltb mostBytes (length file)) e
         → Accepted p
     go true q = clash (cc)
     go false q = lines-accepted (length file) (readLines nothingRead (lines 0 file)) p q
-
--- ---- at most 96 tokens
-
-none-there : {A : Type 0} (l : List A) (n : ℕ) → getElem? l n ≡ none → length l ≤ n
-none-there [] n e = omega arith
-none-there (x ∷ l) zero e = clash (cc)
-none-there (x ∷ l) (suc n) e = omega (arith, none-there l n e)
-
-few-tokens : (at : ℕ) (v : List ℕ) → over96 at v ≡ none → length (tokens at v) ≤ 96
-unfolding over96
-few-tokens at v e = none-there (tokens at v) 96 e
 
 -- ---- a module that the term uses stands in the text
 

@@ -1,19 +1,21 @@
 -- The room of a program's term is below the number of its tokens. No part's text begins or ends with `|`, so its tokens are the same whatever stands
 -- beside it, and are the count by its tree (`Counts`); and each production has at least as many tokens as its term has room.
 -- Assumes nothing.
-use Prim.Native.Nat.{ℕ, _+_, _≤_, _<_, max}
+use Prim.Native.Nat.{ℕ, zero, suc, _+_, _≤_, _<_, max}
 use mathlib.Core.Path.{_≡_, refl}
 use mathlib.Core.Bool.{Bool, true, false, not, _&&_}
 use mathlib.Core.List.{List, [], _∷_, _++_, append-assoc}
+use mathlib.Core.Option.{none}
 use native.Mathlib.Omega.{arith}
 use lib.Dec.{T, eqb, ltb, ltb→lt}
-use lib.ListN.{length}
+use lib.ListN.{length, getElem?}
 use borrow.Author.Tests.{ne-eqb}
 use Rattle.paper.specs.Lists.{with-if}
 use Rattle.paper.specs.Bytes.{starMark, dotMark, slashMark, oneMark, colonMark, openMark, closeMark, braceMark, barMark, unbraceMark}
 use Rattle.paper.specs.Grammar.{Join, bar, bars, Sequence, Item, Starred, Atom, Body, Interruption, Chain, only, then, plain, until, once, again, named, never, group, single, beside, event, treated, braces, last, next, moduleByte, eventByte, joinText, printS, printI, printT, printA, printB, printN, printC, printed}
-use Rattle.paper.specs.Limits.{tokensFrom, tokens}
+use Rattle.paper.specs.Limits.{tokensFrom, tokens, over96}
 use Rattle.paper.specs.Term.{termS, termI, termT, termA, termB, termN, termC}
+use Rattle.paper.proofs.Choices.{clash}
 use Rattle.laws.specs.Weight.{weight, weightI, room}
 use Rattle.laws.specs.Tokens.{countS, countI, countT, countA, countB, countN, countC}
 
@@ -147,3 +149,13 @@ mutual
 
 pub room-below : (at : ℕ) (s : Sequence) → room (termS s) < length (tokens at (printed s))
 room-below at s = omega (arith, tokens-counted at s, sequence-room s)
+
+none-there : {A : Type 0} (l : List A) (n : ℕ) → getElem? l n ≡ none → length l ≤ n
+none-there [] n e = omega arith
+none-there (x ∷ l) zero e = clash (cc)
+none-there (x ∷ l) (suc n) e = omega (arith, none-there l n e)
+
+-- No. 9 does not find a 97th
+pub few-tokens : (at : ℕ) (v : List ℕ) → over96 at v ≡ none → length (tokens at v) ≤ 96
+unfolding over96
+few-tokens at v e = none-there (tokens at v) 96 e

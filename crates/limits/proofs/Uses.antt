@@ -54,7 +54,7 @@ or-assoc : (a b c : Bool) → (a || b || c) ≡ (a || (b || c))
 or-assoc true b c = refl
 or-assoc false b c = refl
 
-has-append : (x : ℕ) (v w : List ℕ) → has x (v ++ w) ≡ (has x v || has x w)
+pub has-append : (x : ℕ) (v w : List ℕ) → has x (v ++ w) ≡ (has x v || has x w)
 unfolding has
 has-append x [] w = refl
 has-append x (y ∷ v) w = ap (λ (b : Bool). eqb x y || b) (has-append x v w) ∙ sym (or-assoc (eqb x y) (has x v) (has x w))

@@ -98,7 +98,7 @@ fn make_node(nodes: &mut [u8], c: u8, l: u8, r: u8) -> u8
 }
 
 // All zero.
-fn clear(nodes: &mut [u8])
+pub fn clear(nodes: &mut [u8])
     ensures { λ r. ⌜ now (nodes .exit) ≡ replicate (length (now (nodes .entry))) 0 ⌝ }
 {
     let mut i = 0;

@@ -31,19 +31,19 @@ sets-behind l vs ws i k e = ap (λ (j : ℕ). sets (sets l i vs) (i + j) ws) (sy
 sets-two : (l vs ws us : List ℕ) (i k j : ℕ) → length vs ≡ k → length ws ≡ j → sets (sets (sets l i vs) (i + k) ws) (i + k + j) us ≡ sets l i (vs ++ (ws ++ us))
 sets-two l vs ws us i k j e d = sets-behind (sets l i vs) ws us (i + k) j d ∙ sets-behind l vs (ws ++ us) i k e
 
-length-codes : (t : Tree) → length (codes t) ≡ size t
+pub length-codes : (t : Tree) → length (codes t) ≡ size t
 unfolding codes size
 length-codes (leaf c p) = refl
 length-codes (star p t) = simp length-append (omega (arith, length-codes t))
 length-codes (join c p t u) = simp length-append (omega (arith, length-codes t, length-codes u))
 
-length-lefts : (f : ℕ) (t : Tree) → length (lefts f t) ≡ size t
+pub length-lefts : (f : ℕ) (t : Tree) → length (lefts f t) ≡ size t
 unfolding lefts size
 length-lefts f (leaf c p) = refl
 length-lefts f (star p t) = simp length-append (omega (arith, length-lefts f t))
 length-lefts f (join c p t u) = simp length-append (omega (arith, length-lefts f t, length-lefts (f + size t) u))
 
-length-places : (t : Tree) → length (places t) ≡ size t
+pub length-places : (t : Tree) → length (places t) ≡ size t
 unfolding places size
 length-places (leaf c p) = refl
 length-places (star p t) = simp length-append (omega (arith, length-places t))

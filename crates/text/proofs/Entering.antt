@@ -60,7 +60,7 @@ listed-none bs s h = ap (λ (t : Bool). cond t (listedAt bs s) []) h
 pub value-there : (bs : List ℕ) (s : Span) → s .there ≡ true → valueIn bs s ≡ some (valueAt bs s)
 value-there bs s h = ap (λ (t : Bool). cond t (some (valueAt bs s)) none) h
 
-letters-append : (xs ys : List Listed) → lettersOf (xs ++ ys) ≡ lettersOf xs ++ lettersOf ys
+pub letters-append : (xs ys : List Listed) → lettersOf (xs ++ ys) ≡ lettersOf xs ++ lettersOf ys
 letters-append [] ys = refl
 letters-append (x ∷ xs) ys = ap (λ (ns : List ℕ). x .letter ∷ ns) (letters-append xs ys)
 

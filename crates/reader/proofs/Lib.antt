@@ -1,0 +1,7 @@
+-- What the reader's proofs share.
+pub mod Slices
+pub mod Either
+pub mod Listed
+pub mod Fits
+pub mod Accepts
+pub mod Reading
