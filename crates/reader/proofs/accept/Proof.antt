@@ -1,3 +1,5 @@
+-- `reader::accept` meets its contract: what it asks of the node maker, the weights and the names holds of a program that passes, and each answer is the definition's (`Accepts`).
+-- Assumes nothing.
 use Rattle.reader.proofs.Accepts.{fit-given, fit-weighable, fit-modules, fit-events, fit-reads}
 use Rattle.reader.proofs.Listed.{end-in}
 use Rattle.nodes.specs.Weights.{Weighed}

@@ -1,3 +1,5 @@
+-- `reader::read` meets its contract: the arrays are cleared first, so a refusal leaves zeros.
+-- Assumes nothing.
 use lib.ListN.{length, replicate}
 use mathlib.Core.Path.{_≡_, ap, subst, _∙_}
 use Prim.Native.Nat.{ℕ}

@@ -1,3 +1,5 @@
+-- `reader::read_text` meets its contract: No. 8 at the place where the reader of the text stops, or what is said of its tree.
+-- Assumes nothing.
 use Rattle.reader.proofs.Reading.{refused-as, reading-stops, read-tree-of}
 use Rattle.reader.proofs.Fits.{text-short}
 use Rattle.reader.proofs.Listed.{end-in}

@@ -1,3 +1,5 @@
+-- `reader::read_tree` meets its contract: what the checks answer is what the paper's checks do (`Reading`).
+-- Assumes nothing.
 use Rattle.reader.proofs.Reading.{refused-as, reading-checked, reading-accepts, checked-fit}
 use Rattle.reader.specs.Reads.{editionOf, ReadsAs}
 use Rattle.paper.specs.Refusals.{reading}

@@ -1,3 +1,5 @@
+-- `checks::check` meets its contract: past 96 tokens No. 9 refuses, and up to them the lists hold every node (`Fits`).
+-- Assumes nothing.
 use Rattle.reader.proofs.Fits.{no-97th, over-refused, tree-few, tree-lists, written-as}
 use Rattle.reader.proofs.Listed.{end-in}
 use Rattle.reader.specs.Reads.{editionOf}

@@ -1,3 +1,5 @@
+-- `checks::check_all` meets its contract: the checks one after the other, on the text as a part of the file.
+-- Assumes nothing.
 use Rattle.reader.proofs.Listed.{end-in}
 use Rattle.reader.proofs.Slices.{slice-part}
 use Rattle.reader.specs.Reads.{editionOf}

@@ -1,3 +1,5 @@
+-- `checks::line_found` meets its contract.
+-- Assumes nothing.
 use Rattle.text.specs.Spans.{valueAt}
 use Rattle.paper.specs.Refusals.{lineOf}
 use mathlib.Core.Option.{none, some}

@@ -1,3 +1,5 @@
+-- `lists::either` meets its contract. The invariant: below l the flags are those of either list (`Either`).
+-- Assumes nothing.
 use Prim.Native.Nat.{ℕ, _≤_, _-_, _+_}
 use mathlib.Core.Logic.{⊎-elim}
 use mathlib.Core.Path.{refl, subst, sym}

@@ -1,3 +1,5 @@
+-- `lists::letters_of` meets its contract: the list ends within the file.
+-- Assumes nothing.
 use mathlib.Core.Path.{sym, refl}
 use native.Mathlib.Omega.{arith}
 use lib.Seq.{length-take-le}

@@ -1,3 +1,5 @@
+-- `lists::lists_of` meets its contract, whichever line comes first (`Listed`).
+-- Assumes nothing.
 use borrow.Author.Tests.{lt-ltb, le-ltb}
 use Rattle.reader.proofs.Listed.{end-in, standard-first, fugitive-first}
 use lib.ListN.{length}
