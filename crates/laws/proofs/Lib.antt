@@ -21,3 +21,4 @@ pub mod Answers
 pub mod Ordered
 pub mod Outcomes
 pub mod Exact
+pub mod Eight

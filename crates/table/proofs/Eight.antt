@@ -1,16 +1,16 @@
--- Numbers below a count, one more of them; and eight places filled one by one. Assumes nothing.
+-- Numbers below a count, one more of them; and the orders in their eight places, one more of them. Assumes nothing.
 use Prim.Native.Nat.{ℕ, zero, suc, _+_, _*_, _≤_, _<_}
 use mathlib.Core.Path.{_≡_, refl, sym, ap, ap₂, _∙_}
-use mathlib.Core.List.{List, [], _∷_, _++_, map, append-assoc}
+use mathlib.Core.List.{List, [], _∷_, _++_, map}
 use native.Mathlib.Nat.{add-zero, zero-add, lt-of-lt-of-le}
 use native.Mathlib.Numerals.{add-one}
 use native.Mathlib.Omega.{arith}
-use lib.ListN.{length, take, set, replicate, length-append}
-use lib.Seq.{take-set-lt, set-at, take-append-le}
+use lib.ListN.{length, set, replicate}
 use lib.Pow.{pow-mono}
 use Rattle.paper.specs.Lists.{from, below}
 use Rattle.paper.specs.IsTable.{field}
 use Rattle.paper.specs.Calls.{eight}
+use Rattle.laws.proofs.Eight.{eight-set}
 use Rattle.fields.proofs.Fields.{field-lt}
 use Rattle.layout.proofs.Lists.{below-length}
 use Rattle.table.specs.Answers.{fieldsFrom}
@@ -26,18 +26,6 @@ below-more : (f : ℕ → ℕ) (k : ℕ) → map f (below (k + 1)) ≡ map f (be
 unfolding below
 below-more f k =
     ap (λ (n : ℕ). map f (from 0 n)) (add-one k) ∙ from-snoc f 0 k ∙ ap (λ (i : ℕ). map f (from 0 k) ++ (f i ∷ [])) (zero-add k)
-
--- one zero fewer is enough where something stands in front
-eight-fewer : (ys : List ℕ) → 1 ≤ length ys → take 8 (ys ++ replicate 7 0) ≡ eight ys
-eight-fewer ys h =
-    let l : 8 ≤ length (ys ++ replicate 7 0) = simp length-append (omega arith) in
-    sym (take-append-le 8 (ys ++ replicate 7 0) (0 ∷ []) l) ∙ ap (take 8) (append-assoc ys (replicate 7 0) (0 ∷ []))
-
-eight-set : (xs : List ℕ) (k v : ℕ) → length xs ≡ k → k < 8 → set (eight xs) k v ≡ eight (xs ++ (v ∷ []))
-eight-set xs k v e h =
-    let l : 1 ≤ length (xs ++ (v ∷ [])) = simp length-append (omega arith) in
-    sym (take-set-lt 8 (xs ++ replicate 8 0) k v h) ∙ ap (take 8) (set-at xs 0 (replicate 7 0) v k e)
-    ∙ ap (take 8) (sym (append-assoc xs (v ∷ []) (replicate 7 0))) ∙ eight-fewer (xs ++ (v ∷ [])) l
 
 pub orders-none : (t : List ℕ) (at w : ℕ) → replicate 8 0 ≡ eight (fieldsFrom t at w 0)
 unfolding fieldsFrom below from
