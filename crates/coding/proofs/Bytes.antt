@@ -59,13 +59,13 @@ module _ (w : List ℕ) (k : ℕ) (m : List ℕ) where
   unfolding byteOf
   at-low i h = at-byte i (omega arith) ∙ rw (lt-ltb i 96 h)
 
-  at-high : (j : ℕ) → j < 24 → getD (bytesOf w k m) (96 + j) 0 ≡ high w j
+  pub at-high : (j : ℕ) → j < 24 → getD (bytesOf w k m) (96 + j) 0 ≡ high w j
   unfolding byteOf
   at-high j h =
       let e : 96 + j - 96 ≡ j = omega arith in
       at-byte (96 + j) (omega arith) ∙ rw (le-ltb (96 + j) 96 (omega arith), lt-ltb (96 + j) 120 (omega arith), e)
 
-  at-count : getD (bytesOf w k m) 120 0 ≡ length w
+  pub at-count : getD (bytesOf w k m) 120 0 ≡ length w
   unfolding byteOf
   at-count = at-byte 120 (omega arith)
 
@@ -73,7 +73,7 @@ module _ (w : List ℕ) (k : ℕ) (m : List ℕ) where
   unfolding byteOf
   at-set = at-byte 121 (omega arith)
 
-  at-pair : (j : ℕ) → j < 4 → getD (bytesOf w k m) (122 + j) 0 ≡ pair m j
+  pub at-pair : (j : ℕ) → j < 4 → getD (bytesOf w k m) (122 + j) 0 ≡ pair m j
   unfolding byteOf
   at-pair j h =
       let e : 122 + j - 122 ≡ j = omega arith in
@@ -163,6 +163,11 @@ unfolding setOf setNumber keep
 set-back [] xs = refl
 set-back (m ∷ ms) xs = set-one (has m xs) (setNumber ms xs) m ms ∙ ap (λ (l : List ℕ). with-if (has m xs) m l) (set-back ms xs)
 
+pub set-none : (ms : List ℕ) → setNumber ms [] ≡ 0
+unfolding setNumber has
+set-none [] = refl
+set-none (m ∷ ms) = rw (set-none ms)
+
 flag-bit : (b : Bool) → flag b < 2
 flag-bit true = omega arith
 flag-bit false = omega arith
@@ -174,7 +179,7 @@ set-small (m ∷ ms) xs = rw (pow-suc 2 (length ms)) (omega (arith, set-small ms
 
 -- ---- the memory
 
-place-is : (es : List ℕ) (e : ℕ) → T (has e es) → (placeIn es e < length es) × (getD es (placeIn es e) 0 ≡ e)
+pub place-is : (es : List ℕ) (e : ℕ) → T (has e es) → (placeIn es e < length es) × (getD es (placeIn es e) 0 ≡ e)
 unfolding has placeIn
 place-is [] e h = absurd h
 place-is (x ∷ xs) e h = go (eqb e x) refl h (place-is xs e)

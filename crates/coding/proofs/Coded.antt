@@ -112,15 +112,15 @@ code-decode p b s =
 -- ---- the bytes of a state say it
 
 module _ (p : Program) (f : Fit p) where
-  says : (r : Left) → OverL (nodesOf p) (p .modules) r → Right (nodesOf p) (wordL (nodesOf p) r) × (terms (nodesOf p) (wordL (nodesOf p) r) ≡ rest r)
+  pub says : (r : Left) → OverL (nodesOf p) (p .modules) r → Right (nodesOf p) (wordL (nodesOf p) r) × (terms (nodesOf p) (wordL (nodesOf p) r) ≡ rest r)
   says r o = wordL-says (nodesOf p) (p .modules) (f .nodes) (f .letters) r o
 
-  word-short : (r : Left) → weightL r ≤ 96 → length (wordL (nodesOf p) r) ≤ 96
+  pub word-short : (r : Left) → weightL r ≤ 96 → length (wordL (nodesOf p) r) ≤ 96
   unfolding weightL wordL
   word-short gone h = omega arith
   word-short (still t) h = omega (arith, word-long (nodesOf p) t)
 
-  units-small : (r : Left) → OverL (nodesOf p) (p .modules) r → (i : ℕ) → getD (wordL (nodesOf p) r) i 0 < 1024
+  pub units-small : (r : Left) → OverL (nodesOf p) (p .modules) r → (i : ℕ) → getD (wordL (nodesOf p) r) i 0 < 1024
   units-small r o i = omega (arith, right-small (nodesOf p) (wordL (nodesOf p) r) (says r o .0) i)
 
   pub said-code : (s : State) → Written p s → said p (code p s) ≡ s

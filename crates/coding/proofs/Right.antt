@@ -10,7 +10,7 @@ use mathlib.Core.List.{List, [], _∷_}
 use mathlib.Core.Logic.{_↔_}
 use mathlib.Core.Path.{_≡_, refl, ap}
 use lib.ListN.{getD, replicate}
-use Rattle.paper.specs.Lists.{has, from, below}
+use Rattle.paper.specs.Lists.{from, below}
 use Rattle.paper.specs.Parse.{parse}
 use Rattle.paper.specs.File.{accepted}
 use Rattle.paper.specs.Term.{gone}
@@ -19,9 +19,10 @@ use Rattle.paper.specs.Discovery.{Reach, begin, next}
 use Rattle.paper.specs.Refusals.{adaptive, reading}
 use Rattle.paper.specs.Calls.{CodingRight}
 use Rattle.coding.specs.Units.{wordL}
-use Rattle.coding.specs.Layout.{byteOf, bytesOf, setNumber, marksOf}
+use Rattle.coding.specs.Layout.{byteOf, bytesOf, marksOf}
 use Rattle.coding.specs.Written.{Written}
 use Rattle.coding.specs.Code.{code, coding}
+use Rattle.coding.proofs.Bytes.{set-none}
 use Rattle.coding.proofs.Coded.{code-long, code-bytes, Unused, unused-zero, code-one, decode-code, code-decode}
 use Rattle.coding.proofs.Closed.{start-in, step-in}
 use Rattle.coding.proofs.Accepted.{accepted-fit}
@@ -50,11 +51,6 @@ module _ (file : List ℕ) (p : Program) (e : reading parse adaptive file ≡ ac
 
   pub code-unused : (s : State) → Written p s → Unused p s (code p s)
   code-unused = unused-zero p (accepted-fit file p e)
-
-set-none : (ms : List ℕ) → setNumber ms [] ≡ 0
-unfolding setNumber has
-set-none [] = refl
-set-none (m ∷ ms) = rw (set-none ms)
 
 pub code-end : (p : Program) → code p (record { left = gone; memory = []; stopped = [] }) ≡ replicate 128 0
 unfolding code wordL marksOf bytesOf byteOf below from

@@ -18,12 +18,12 @@ use Rattle.coding.specs.Units.{wordL, OverL}
 use Rattle.coding.proofs.Words.{over-says, right-word}
 
 -- a word that says nothing is none
-silent : (P us : List ℕ) → terms P us ≡ [] → us ≡ []
+pub silent : (P us : List ℕ) → terms P us ≡ [] → us ≡ []
 unfolding terms
 silent P [] e = refl
 silent P (u ∷ us) e = absurd (filled P (mark u) (terms P us) e)
 
-left-word : (P us : List ℕ) → Nodes P → Apart P → Right P us → (ts : List Term) → length ts ≤ 1 → terms P us ≡ ts → wordL P (leftOf ts) ≡ us
+pub left-word : (P us : List ℕ) → Nodes P → Apart P → Right P us → (ts : List Term) → length ts ≤ 1 → terms P us ≡ ts → wordL P (leftOf ts) ≡ us
 unfolding wordL
 left-word P us ns ap′ r [] h e = sym (silent P us e)
 left-word P us ns ap′ r (t ∷ []) h e = right-word P ns ap′ us t (record { ok = r; term = e })

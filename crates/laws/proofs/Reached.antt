@@ -66,11 +66,11 @@ pub reach-end : (p : Program) (s : State) → Reach p s → s .left ≡ gone →
 reach-end p s k e = (subst (λ (r : Left). Quiet r (s .memory)) e (reach-quiet p s k), reach-emptied p s k e)
 
 -- an event among the letters is an event of the program
-among-cons : (l k : Letter) (ls : List Letter) → Among l (k ∷ ls) → (l ≡ k) ⊎ Among l ls
+pub among-cons : (l k : Letter) (ls : List Letter) → Among l (k ∷ ls) → (l ≡ k) ⊎ Among l ls
 among-cons l k ls here = inl refl
 among-cons l k ls (there a) = inr a
 
-among-event : (e : ℕ) (ms es : List ℕ) → Among (occurrence e) (map (λ m. completion m) ms ++ map (λ x. occurrence x) es) → T (has e es)
+pub among-event : (e : ℕ) (ms es : List ℕ) → Among (occurrence e) (map (λ m. completion m) ms ++ map (λ x. occurrence x) es) → T (has e es)
 among-event e [] [] a = elim a [ ]
 among-event e [] (x ∷ es) a =
     ⊎-elim (λ q. has-here e x es (subst (λ (y : ℕ). T (eqb e y)) (cc) (eqb-refl e)))

@@ -49,14 +49,14 @@ given-same {r} {r′} {m} {m′} {v} {v′} {f} {f′} a b c d =
     ∙ ap (λ (x : List Bool). record { verdict = Accepted; root = r′; modules = m′; events = v′; fugitive = x }) d))
 
 -- a list by its places
-getD-from : {A : Type 0} (f : ℕ → A) (d : A) (k n i : ℕ) → i < n → getD (map f (from k n)) i d ≡ f (k + i)
+pub getD-from : {A : Type 0} (f : ℕ → A) (d : A) (k n i : ℕ) → i < n → getD (map f (from k n)) i d ≡ f (k + i)
 unfolding from
 getD-from f d k zero i h = absurd (omega arith)
 getD-from f d k (suc n) zero h = let e : k ≡ k + 0 = omega arith in ap f e
 getD-from f d k (suc n) (suc i) h =
     let e : suc k + i ≡ k + suc i = omega arith in getD-from f d (suc k) n i (omega arith) ∙ ap f e
 
-length-from : {A : Type 0} (f : ℕ → A) (k n : ℕ) → length (map f (from k n)) ≡ n
+pub length-from : {A : Type 0} (f : ℕ → A) (k n : ℕ) → length (map f (from k n)) ≡ n
 unfolding from
 length-from f k zero = refl
 length-from f k (suc n) = ap suc (length-from f (suc k) n)

@@ -1,0 +1,2 @@
+-- What the live engine's contracts cite.
+pub mod Live

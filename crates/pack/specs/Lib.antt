@@ -1,0 +1,2 @@
+-- From a state to the live state's 128 bytes: what is asked, and what each part writes.
+pub mod Packing
