@@ -3,6 +3,7 @@
 use crate::config::read_config;
 use crate::limits::{Edition, MOST_NAMES};
 use crate::live::Live;
+use crate::live_bytes;
 use crate::refusal::Refusal;
 use crate::rules::{postorder, Order};
 use crate::table::{compile, table_start, table_step, Table};
@@ -157,4 +158,24 @@ fn stepped(bytes: &[u8], state: usize, letter: u8) -> Result<(usize, Vec<u8>), R
     let step = table_step(bytes, state, letter)?;
     let orders = step.orders.iter().map(|order| *order as u8);
     Ok((step.next, orders.collect()))
+}
+
+/// A live call as one line, a step by this letter or a start: eight orders, zeros past the last
+/// module, or the refusal; then the bytes of the live state after it. A start orders 1 to each
+/// module that runs.
+pub fn live_answer(file: &[u8], live: &[u8], letter: Option<u8>) -> Vec<u8> {
+    let answer = match letter {
+        None => live_bytes::start(file, live),
+        Some(letter) => live_bytes::step(file, live, letter),
+    };
+    let line = match answer {
+        Ok((orders, live)) => {
+            let none = std::iter::repeat(0).take(MOST_NAMES - orders.len());
+            let digits = orders.iter().copied().chain(none);
+            let orders: String = digits.map(|order| order.to_string()).collect();
+            format!("{orders} {}\n", hex(&live))
+        }
+        Err(refusal) => format!("{refusal} {}\n", hex(live)),
+    };
+    line.into_bytes()
 }

@@ -14,6 +14,7 @@
 //! - `discover`  all states in their order: refusals 17 and 18
 //! - `table`     the packed bits, check 19, table start and step
 //! - `live`      live start and step
+//! - `live_bytes` the live state's 128 bytes, and the live calls on them: refusals 1 and 23
 //! - `answer`    the lines that the programs print
 //!
 //! Every public function is total: it answers for any bytes, and none panics.
@@ -28,6 +29,7 @@ pub mod file;
 pub mod grammar;
 pub mod limits;
 pub mod live;
+pub mod live_bytes;
 pub mod refusal;
 pub mod rules;
 pub mod table;

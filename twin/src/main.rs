@@ -5,8 +5,8 @@ use std::io::{self, BufRead, BufReader, Read, Write};
 use std::process::ExitCode;
 
 use twin::answer::{
-    call_answer, compile_answer, reading_answer, table_start_answer, table_step_answer,
-    trace_answer,
+    call_answer, compile_answer, live_answer, reading_answer, table_start_answer,
+    table_step_answer, trace_answer,
 };
 use twin::limits::Edition;
 
@@ -20,13 +20,13 @@ const USAGE: &str = "usage, the file or table on standard input:
   twin stream WHAT                    frames of two length bytes, high first, and as many bytes;
                                       WHAT is basic, adaptive, reading-basic or reading-adaptive
   twin stream tables                  calls of tables: a byte, 0 for start; two for the state, high
-                                      first; the letter; two length bytes, high first; the table";
+                                      first; the letter; two length bytes, high first; the table
+  twin stream walks                   live runs: two frames each, the file and its letters
+  twin stream lives                   live calls: a byte, 0 for start; the letter; a byte for the
+                                      live state's length; the file as a frame; the live state";
 
 /// The longest record line that can be right: an edition, a space, a number, a line end.
 const LONGEST_RECORD_LINE: u64 = 64;
-
-/// The bytes of a table's call before the table.
-const CALL_BYTES: usize = 6;
 
 /// An answer to the bytes of a file.
 type Answerer = fn(&[u8]) -> Vec<u8>;
@@ -38,8 +38,16 @@ enum Command {
     TableStart,
     TableStep(usize, u8),
     Batch,
-    Stream(Answerer),
+    Stream(Frames),
+}
+
+/// What the frames of a stream are.
+#[derive(Clone, Copy)]
+enum Frames {
+    Files(Answerer),
     Tables,
+    Walks,
+    Lives,
 }
 
 /// Status 0 for every answer, refusals too; 2 and a message if there is none.
@@ -74,8 +82,7 @@ fn command() -> Option<Command> {
             Some(Command::TableStep(decimal(state)?, letter))
         }
         ["batch"] => Some(Command::Batch),
-        ["stream", "tables"] => Some(Command::Tables),
-        ["stream", what] => answerer(what).map(Command::Stream),
+        ["stream", what] => frames(what).map(Command::Stream),
         [name] => edition(name).map(Command::Compile),
         _ => None,
     }
@@ -90,15 +97,19 @@ fn edition(name: &str) -> Option<Edition> {
     }
 }
 
-/// What a stream's frames are answered with.
-fn answerer(what: &str) -> Option<Answerer> {
-    match what {
-        "basic" => Some(|file| compile_answer(file, Edition::Basic)),
-        "adaptive" => Some(|file| compile_answer(file, Edition::Adaptive)),
-        "reading-basic" => Some(|file| reading_answer(file, Edition::Basic)),
-        "reading-adaptive" => Some(|file| reading_answer(file, Edition::Adaptive)),
-        _ => None,
-    }
+/// What the frames of the stream of this name are.
+fn frames(what: &str) -> Option<Frames> {
+    let files: Answerer = match what {
+        "tables" => return Some(Frames::Tables),
+        "walks" => return Some(Frames::Walks),
+        "lives" => return Some(Frames::Lives),
+        "basic" => |file| compile_answer(file, Edition::Basic),
+        "adaptive" => |file| compile_answer(file, Edition::Adaptive),
+        "reading-basic" => |file| reading_answer(file, Edition::Basic),
+        "reading-adaptive" => |file| reading_answer(file, Edition::Adaptive),
+        _ => return None,
+    };
+    Some(Frames::Files(files))
 }
 
 /// A number written in decimal digits only.
@@ -114,8 +125,7 @@ fn decimal(text: &str) -> Option<usize> {
 fn run(command: Command) -> Result<(), String> {
     let answer = match command {
         Command::Batch => return batch(),
-        Command::Stream(answer) => stream(&standard_input()?, answer)?,
-        Command::Tables => tables(&standard_input()?)?,
+        Command::Stream(frames) => stream(&standard_input()?, frames)?,
         Command::Compile(edition) => compile_answer(&standard_input()?, edition),
         Command::Trace(letters) => trace_answer(&standard_input()?, &letters),
         Command::TableStart => table_start_answer(&standard_input()?),
@@ -125,41 +135,49 @@ fn run(command: Command) -> Result<(), String> {
 }
 
 /// The answers to all frames of the input, one after the other.
-fn stream(input: &[u8], answer: Answerer) -> Result<Vec<u8>, String> {
+fn stream(input: &[u8], frames: Frames) -> Result<Vec<u8>, String> {
     let mut out = Vec::new();
     let mut rest = input;
     while !rest.is_empty() {
-        let frame = next_frame(rest).ok_or("the last frame is cut short")?;
-        out.extend(answer(frame));
-        rest = &rest[2 + frame.len()..];
+        let answer = next_answer(&mut rest, frames).ok_or("the last frame is cut short")?;
+        out.extend(answer);
     }
     Ok(out)
 }
 
-/// The frame that the bytes begin with; `None` if they end before it does.
-fn next_frame(bytes: &[u8]) -> Option<&[u8]> {
-    let length = usize::from(*bytes.first()?) * 256 + usize::from(*bytes.get(1)?);
-    bytes.get(2..2 + length)
+/// Takes the next frame and answers it; `None` if the bytes end before it does.
+fn next_answer(rest: &mut &[u8], frames: Frames) -> Option<Vec<u8>> {
+    Some(match frames {
+        Frames::Files(answer) => answer(next_long(rest)?),
+        Frames::Tables => {
+            let call = next(rest, 4)?;
+            let letter = if call[0] == 0 { None } else { Some(call[3]) };
+            call_answer(two_bytes(&call[1..3]), letter, next_long(rest)?)
+        }
+        Frames::Walks => {
+            let file = next_long(rest)?;
+            trace_answer(file, next_long(rest)?)
+        }
+        Frames::Lives => {
+            let call = next(rest, 3)?;
+            let letter = if call[0] == 0 { None } else { Some(call[1]) };
+            let file = next_long(rest)?;
+            live_answer(file, next(rest, usize::from(call[2]))?, letter)
+        }
+    })
 }
 
-/// The answers to all calls of tables in the input, one after the other.
-fn tables(input: &[u8]) -> Result<Vec<u8>, String> {
-    let mut out = Vec::new();
-    let mut rest = input;
-    while !rest.is_empty() {
-        let (call, table) = next_call(rest).ok_or("the last frame is cut short")?;
-        let letter = if call[0] == 0 { None } else { Some(call[3]) };
-        out.extend(call_answer(two_bytes(&call[1..3]), letter, table));
-        rest = &rest[CALL_BYTES + table.len()..];
-    }
-    Ok(out)
+/// Takes so many bytes.
+fn next<'a>(rest: &mut &'a [u8], count: usize) -> Option<&'a [u8]> {
+    let taken = rest.get(..count)?;
+    *rest = &rest[count..];
+    Some(taken)
 }
 
-/// The call that the bytes begin with, and its table; `None` if they end before it does.
-fn next_call(bytes: &[u8]) -> Option<(&[u8], &[u8])> {
-    let call = bytes.get(..CALL_BYTES)?;
-    let length = two_bytes(&call[4..]);
-    Some((call, bytes.get(CALL_BYTES..CALL_BYTES + length)?))
+/// Takes two length bytes, high first, and as many bytes.
+fn next_long<'a>(rest: &mut &'a [u8]) -> Option<&'a [u8]> {
+    let length = two_bytes(next(rest, 2)?);
+    next(rest, length)
 }
 
 /// The number of two bytes, high first.

@@ -5,7 +5,7 @@ use std::fmt;
 /// A refusal: one of the numbers of document 01, and its place in the file.
 #[derive(Clone, Copy, Debug, PartialEq, Eq)]
 pub struct Refusal {
-    /// The number, 2 to 22.
+    /// The number, 1 to 23.
     pub number: u8,
     /// The place, a byte offset from the start of the file.
     pub place: usize,

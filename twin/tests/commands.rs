@@ -274,3 +274,60 @@ fn stream_of_tables() {
     complains(&["stream", "tables"], &calls[..5], "cut short");
     complains(&["stream", "tables"], &calls[..16], "cut short");
 }
+
+#[test]
+fn stream_of_walks() {
+    let refused = b"program a\n";
+    let runs = [frame(FILE), frame(b"xEa"), frame(refused), frame(b"a")].concat();
+    let wanted = "start a\nx refused 21\nE -a\na refused 22\nrefused 8 at 9\n";
+    prints(&["stream", "walks"], &runs, wanted);
+    prints(&["stream", "walks"], b"", "");
+    complains(&["stream", "walks"], &frame(FILE), "cut short");
+}
+
+/// One live call in a stream: 0 for start, the letter, the live state.
+fn live_call(start: u8, letter: u8, live: &[u8]) -> Vec<u8> {
+    [&[start, letter, live.len() as u8], &frame(FILE)[..], live].concat()
+}
+
+#[test]
+fn stream_of_lives() {
+    // `/` with node 2, and the module a; the end
+    let mut start = [0; 128];
+    start[..2].copy_from_slice(&[0x82, 0x02]);
+    start[96] = 0x70;
+    start[120] = 2;
+    let end = [0; 128];
+    let hex = |live: &[u8]| -> String { live.iter().map(|b| format!("{b:02x}")).collect() };
+    for (call, wanted) in [
+        (live_call(0, 0, &end), format!("10000000 {}", hex(&start))),
+        (
+            live_call(1, b'a', &start),
+            format!("00000000 {}", hex(&end)),
+        ),
+        (
+            live_call(1, b'E', &start),
+            format!("30000000 {}", hex(&end)),
+        ),
+        (
+            live_call(1, b'a', &end),
+            format!("refused 22 at 0 {}", hex(&end)),
+        ),
+        (
+            live_call(1, b'b', &end),
+            format!("refused 21 at 0 {}", hex(&end)),
+        ),
+        (
+            live_call(1, b'b', &[1; 128]),
+            format!("refused 23 at 0 {}", hex(&[1; 128])),
+        ),
+        (
+            live_call(1, b'b', &[1; 127]),
+            format!("refused 1 at 0 {}", hex(&[1; 127])),
+        ),
+        (live_call(0, b'b', &[]), String::from("refused 1 at 0 ")),
+    ] {
+        prints(&["stream", "lives"], &call, &(wanted + "\n"));
+        complains(&["stream", "lives"], &call[..4], "cut short");
+    }
+}
