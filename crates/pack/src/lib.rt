@@ -127,8 +127,7 @@ fn put_marks(events: &[u8], memory: Memory, b: &mut [u8])
 }
 
 // The 128 bytes of a state: a zeroed array, filled with its code. The table says what the word's units mean, and is not read.
-// Ruled out (must-fail/): a word without its length, high bits of the next unit or of the last ones left out, low bits lost, marks that are not
-// shifted or in the wrong half or left out, bits of modules at other places.
+// Ruled out (must-fail/): a word without its length, high bits of the next unit, marks that are not shifted, bits of modules at other places.
 pub fn pack(
     p: &[u8],
     modules: &[u8],

@@ -1,0 +1,2 @@
+-- What is proved of runs.
+pub mod Agree
