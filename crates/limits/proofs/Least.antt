@@ -88,7 +88,7 @@ module _ {A : Type 0} (r : Rule A) where
       ∙ (ap (λ (x : List ℕ). scan r cs′ x ps ws m) b ∙ ap (λ (x : List ℕ). scan r cs′ ls′ x ws m) c)
 
   -- one node, by what its two looks give
-  scan-node : (c l p : ℕ) (cs ls ps : List ℕ) (ws : List A) (m : ℕ) (w : A) (b : Bool) (ws′ : List A) (m′ : ℕ)
+  pub scan-node : (c l p : ℕ) (cs ls ps : List ℕ) (ws : List A) (m : ℕ) (w : A) (b : Bool) (ws′ : List A) (m′ : ℕ)
       → r .worth c (getD ws l (r .none-yet)) (getD ws (length ws - 1) (r .none-yet)) ≡ w
       → r .passes c (getD ws l (r .none-yet)) (getD ws (length ws - 1) (r .none-yet)) ≡ b
       → ws ++ (w ∷ []) ≡ ws′

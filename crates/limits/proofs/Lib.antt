@@ -11,5 +11,6 @@ pub mod Stars
 pub mod Uses
 pub mod Joins
 pub mod Shared
+pub mod Absent
 pub mod Passes
 pub mod Order

@@ -15,7 +15,7 @@ rest-read zero k d = refl
 rest-read (suc j) zero d = refl
 rest-read (suc j) (suc k) d = rest-read j k d
 
-append-read : {A : Type 0} (ws : List A) (j k : ℕ) (d : A) → getD (ws ++ replicate j d) k d ≡ getD ws k d
+pub append-read : {A : Type 0} (ws : List A) (j k : ℕ) (d : A) → getD (ws ++ replicate j d) k d ≡ getD ws k d
 append-read [] j k d = rest-read j k d
 append-read (w ∷ ws) j zero d = refl
 append-read (w ∷ ws) j (suc k) d = append-read ws j k d

@@ -263,7 +263,7 @@ text-any base pr on picks alpha v w t u c e x y =
     ∙ (ap (λ (a : Bool). on k && (fold (sharing (base + k)) t && a)) (y (base + k) (alpha k h))
     ∙ ap (λ (a : Bool). on k && (a && fold (sharing (base + k)) t && fold (sharing (base + k)) u)) (sym e)))
 
-and-none : (a : Bool) → (a && false) ≡ false
+pub and-none : (a : Bool) → (a && false) ≡ false
 and-none true = refl
 and-none false = refl
 

@@ -20,7 +20,7 @@ use Rattle.limits.proofs.Stars.{module-leaf, event-leaf}
 abbrev pub isAlpha : ℕ → Bool
 isAlpha x = isModule x || isEvent x
 
-or-first : (a b : Bool) → (a || b) ≡ false → a ≡ false
+pub or-first : (a b : Bool) → (a || b) ≡ false → a ≡ false
 or-first true b e = e
 or-first false b e = refl
 

@@ -11,6 +11,7 @@ ghost use Rattle.limits.specs.Found.{found};
 ghost use Rattle.limits.specs.Letters.{Tells};
 ghost use Rattle.limits.specs.Nodes.{far, there, isStar, isJoin, isBars, scan, nest, nesting, uses, sharing, joining, leastOver, Written};
 use super::Found;
+use super::letters::used;
 
 // Above every place.
 const FAR: usize = 65536;
@@ -128,7 +129,18 @@ fn shared(code: &[u8], left: &[u8], place: &[u16], n: usize, x: u8) -> usize
     best
 }
 
-// The least over the 26 letters from a base on, without those to skip.
+// The same, or FAR for a letter that is not to be looked for.
+fn shared_if(code: &[u8], left: &[u8], place: &[u16], n: usize, x: u8, looks: bool) -> usize
+    requires { ⌜ (n ≤ 192) × (n ≤ length (now code)) × (n ≤ length (now left)) × (n ≤ length (now place)) ⌝ }
+    ensures { λ r. ⌜ r ≡ cond looks (scan (sharing x) (take n (now (code .entry))) (take n (now (left .entry))) (take n (now (place .entry))) [] far) far ⌝ }
+{
+    if looks {
+        return shared(code, left, place, n, x);
+    }
+    FAR
+}
+
+// The least over the 26 letters from a base on, without those to skip. A letter that no node has is on no side, so it needs no pass.
 fn shared_by_any(
     code: &[u8],
     left: &[u8],
@@ -140,11 +152,13 @@ fn shared_by_any(
     requires { ⌜ (n ≤ 192) × (n ≤ length (now code)) × (n ≤ length (now left)) × (n ≤ length (now place)) × (base ≤ 97) ⌝ }
     ensures { λ r. ⌜ r ≡ leastOver (λ (k : ℕ). scan (sharing (base + k)) (take n (now (code .entry))) (take n (now (left .entry))) (take n (now (place .entry))) [] far) (λ (k : ℕ). not (getD skip k false)) 26 ⌝ }
 {
+    let seen = used(&code[..n], 0, base);
     let mut best = FAR;
     let mut k: u8 = 0;
     while k < 26 {
-        let p = shared(code, left, place, n, base + k);
-        best = nearer(best, !skip[k as usize], p);
+        let looks = seen[k as usize] & !skip[k as usize];
+        let p = shared_if(code, left, place, n, base + k, looks);
+        best = nearer(best, true, p);
         k += 1;
     }
     best
