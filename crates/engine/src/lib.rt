@@ -100,7 +100,7 @@ fn is_fugitive(fugitive: &[bool; 26], letter: Letter) -> bool
 }
 
 // The start of a program: its word's code, and the modules that run.
-fn begin(nodes: &[u8], root: usize, modules: &[u8], events: &[u8], live: &mut [u8]) -> Answer
+pub fn begin(nodes: &[u8], root: usize, modules: &[u8], events: &[u8], live: &mut [u8]) -> Answer
     requires { ⌜ Begins (now nodes) root (now modules) (now events) × (length (now live) ≡ 128) ⌝ }
     ensures { λ r. ⌜ ((q : Program) → Loaded q (now (nodes .entry)) (now (modules .entry)) (now (events .entry)) → Rooted q (now (nodes .entry)) root
         → outcome r (now (live .exit)) ≡ calls.begun coding (accepted q) (now (live .entry))) ⌝ }
@@ -122,7 +122,7 @@ fn begin(nodes: &[u8], root: usize, modules: &[u8], events: &[u8], live: &mut [u
 }
 
 // One letter of the program in the state whose word stands from s on: No. 22, or the reaction, and its state's code.
-fn go(
+pub fn go(
     nodes: &[u8],
     modules: &[u8],
     events: &[u8],

@@ -13,3 +13,4 @@ pub mod Complete
 pub mod Law
 pub mod Answers
 pub mod First
+pub mod Ranged
