@@ -140,31 +140,31 @@ order-small false false false s = omega arith
 -- ---- the letters, the orders and an entry of a program
 
 module _ (p : Program) where
-  letters-length : length (letters p) ≡ length (p .modules) + length (p .events)
+  pub letters-length : length (letters p) ≡ length (p .modules) + length (p .events)
   unfolding letters
   letters-length =
       length-append (map (λ m. completion m) (p .modules)) (map (λ e. occurrence e) (p .events))
       ∙ ap₂ (λ (x y : ℕ). x + y) (length-map (p .modules) (λ m. completion m)) (length-map (p .events) (λ e. occurrence e))
 
-  module-letter : (m : ℕ) (d : Letter) → m < length (p .modules) → getD (letters p) m d ≡ completion (getD (p .modules) m 0)
+  pub module-letter : (m : ℕ) (d : Letter) → m < length (p .modules) → getD (letters p) m d ≡ completion (getD (p .modules) m 0)
   unfolding letters
   module-letter m d h =
       List·getD-append (map (λ m. completion m) (p .modules)) (map (λ e. occurrence e) (p .events)) d m
       (omega (arith, length-map (p .modules) (λ m. completion m)))
       ∙ map-at (λ m. completion m) (p .modules) m 0 d h
 
-  event-letter : (e : ℕ) (d : Letter) → e < length (p .events) → getD (letters p) (length (p .modules) + e) d ≡ occurrence (getD (p .events) e 0)
+  pub event-letter : (e : ℕ) (d : Letter) → e < length (p .events) → getD (letters p) (length (p .modules) + e) d ≡ occurrence (getD (p .events) e 0)
   unfolding letters
   event-letter e d h =
       ap (λ (n : ℕ). getD (letters p) (n + e) d) (sym (length-map (p .modules) (λ m. completion m)))
       ∙ getD-append-add (map (λ m. completion m) (p .modules)) (map (λ e. occurrence e) (p .events)) e d
       ∙ map-at (λ e. occurrence e) (p .events) e 0 d h
 
-  does-length : (l : Letter) (s : State) → length (reaction p l s .does) ≡ length (p .modules)
+  pub does-length : (l : Letter) (s : State) → length (reaction p l s .does) ≡ length (p .modules)
   unfolding reaction orders
   does-length l s = length-map (p .modules) _
 
-  does-small : (l : Letter) (s : State) (k : ℕ) → k < length (p .modules) → getD (reaction p l s .does) k 0 < 4
+  pub does-small : (l : Letter) (s : State) (k : ℕ) → k < length (p .modules) → getD (reaction p l s .does) k 0 < 4
   unfolding reaction orders
   does-small l s k h =
       subst (λ (n : ℕ). n < 4) (sym (map-at _ (p .modules) k 0 0 h)) (order-small _ _ _ _)
@@ -202,7 +202,7 @@ module _ (p : Program) where
 -- ---- the table of a list of states that begins with the start and that no possible letter leaves
 
 module _ (p : Program) (all : List State) where
-  entry-of : (s l : ℕ) → s < length all → l < length (p .modules) + length (p .events) → entryAt (tableOf p all) s l ≡ entryOf p all (getD all s (startOf p)) (getD (letters p) l (completion 0))
+  pub entry-of : (s l : ℕ) → s < length all → l < length (p .modules) + length (p .events) → entryAt (tableOf p all) s l ≡ entryOf p all (getD all s (startOf p)) (getD (letters p) l (completion 0))
   unfolding tableOf
   entry-of s l hs hl =
       ap (λ (row : List Entry). getD row l noEntry) (map-at (λ s. map (entryOf p all s) (letters p)) all s (startOf p) [] hs)

@@ -192,7 +192,7 @@ pub fn rewrite_term(
 }
 
 // Copies the places from a on.
-fn copy(src: &[usize], dst: &mut [usize], a: usize)
+pub fn copy(src: &[usize], dst: &mut [usize], a: usize)
     requires { ⌜ (a ≤ 96) × ((length (now src) ≡ 96) × (length (now dst) ≡ 96)) ⌝ }
     ensures { λ _. ⌜ drop a (now (dst .exit)) ≡ drop a (now (src .entry)) ⌝ }
 {

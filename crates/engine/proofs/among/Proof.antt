@@ -8,8 +8,6 @@ use Prim.Native.Nat.{_-_, _≤_}
 use borrow.Author.Needs.{needs}
 use Rattle.engine.proofs.among.Statement.{statement}
 use Rattle.engine.proofs.among.Tie as tie
-use Rattle.engine.proofs.among.Reads as reads
-use Rattle.engine.proofs.among.Lts as lts
 
 abbrev Inv-loop : tie.InvT-loop
 Inv-loop names n i₀ i = (i ≤ length names) × (has n names ≡ has n (drop i names))

@@ -4,12 +4,6 @@ use mathlib.Core.Path.{refl}
 use borrow.Author.Needs.{needs}
 use Rattle.engine.proofs.begin.Statement.{statement}
 use Rattle.engine.proofs.begin.Tie as tie
-use Rattle.engine.proofs.begin.Reads as reads
-use Rattle.engine.proofs.begin.Lts as lts
-use Rattle.pack.proofs.copy_out.Reads as copy-out-reads
-use Rattle.pack.proofs.pack.Reads as pack-reads
-use Rattle.pack.proofs.start_word.Reads as start-word-reads
-use Rattle.react.proofs.runs_flags.Reads as runs-flags-reads
 
 -- src/lib.rt:114:37
 slice-aggregate-start-word : tie.Need-slice-aggregate-start-word

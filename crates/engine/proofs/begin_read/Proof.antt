@@ -7,9 +7,6 @@ use mathlib.Core.Path.{_≡_, sym}
 use borrow.Author.Needs.{needs}
 use Rattle.engine.proofs.begin_read.Statement.{statement}
 use Rattle.engine.proofs.begin_read.Tie as tie
-use Rattle.engine.proofs.begin_read.Reads as reads
-use Rattle.engine.proofs.begin_read.Lts as lts
-use Rattle.engine.proofs.begin.Reads as begin-reads
 
 -- src/lib.rt:210:24
 array-share-prefix-letters : tie.Need-array-share-prefix-letters

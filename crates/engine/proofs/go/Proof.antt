@@ -7,14 +7,6 @@ use Rattle.rewrite.specs.Steps.{letterOf}
 use borrow.Author.Needs.{needs}
 use Rattle.engine.proofs.go.Statement.{statement}
 use Rattle.engine.proofs.go.Tie as tie
-use Rattle.engine.proofs.go.Reads as reads
-use Rattle.engine.proofs.go.Lts as lts
-use Rattle.engine.proofs.is_fugitive.Reads as is-fugitive-reads
-use Rattle.engine.proofs.refuse.Reads as refuse-reads
-use Rattle.pack.proofs.copy_out.Reads as copy-out-reads
-use Rattle.pack.proofs.pack.Reads as pack-reads
-use Rattle.react.proofs.possible.Reads as possible-reads
-use Rattle.react.proofs.react.Reads as react-reads
 
 -- src/lib.rt:149:9
 possible-requires : tie.Need-possible-requires

@@ -8,8 +8,6 @@ use Prim.Native.Nat.{ℕ}
 use borrow.Author.Needs.{needs}
 use Rattle.engine.proofs.is_fugitive.Statement.{statement}
 use Rattle.engine.proofs.is_fugitive.Tie as tie
-use Rattle.engine.proofs.is_fugitive.Reads as reads
-use Rattle.engine.proofs.is_fugitive.Lts as lts
 
 -- src/lib.rt:96:34
 enum-told : tie.Need-enum-told

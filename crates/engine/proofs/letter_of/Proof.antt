@@ -5,11 +5,6 @@ use mathlib.Core.Path.{sym, _∙_}
 use borrow.Author.Needs.{needs}
 use Rattle.engine.proofs.letter_of.Statement.{statement}
 use Rattle.engine.proofs.letter_of.Tie as tie
-use Rattle.engine.proofs.letter_of.Reads as reads
-use Rattle.engine.proofs.letter_of.Lts as lts
-use Rattle.engine.proofs.among.Reads as among-reads
-use Rattle.text.proofs.kinds.is_event.Reads as is-event-reads
-use Rattle.text.proofs.kinds.is_module.Reads as is-module-reads
 
 -- src/lib.rt:75:8
 is-module-requires : tie.Need-is-module-requires

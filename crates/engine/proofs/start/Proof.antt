@@ -4,11 +4,6 @@ use Rattle.engine.specs.Live.{outcome}
 use borrow.Author.Needs.{needs}
 use Rattle.engine.proofs.start.Statement.{statement}
 use Rattle.engine.proofs.start.Tie as tie
-use Rattle.engine.proofs.start.Reads as reads
-use Rattle.engine.proofs.start.Lts as lts
-use Rattle.engine.proofs.begin_read.Reads as begin-read-reads
-use Rattle.engine.proofs.refuse.Reads as refuse-reads
-use Rattle.reader.proofs.read.Reads as read-reads
 
 -- src/lib.rt:233:9
 refuse-requires : tie.Need-refuse-requires

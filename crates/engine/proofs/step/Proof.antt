@@ -4,11 +4,6 @@ use Rattle.engine.specs.Live.{outcome}
 use borrow.Author.Needs.{needs}
 use Rattle.engine.proofs.step.Statement.{statement}
 use Rattle.engine.proofs.step.Tie as tie
-use Rattle.engine.proofs.step.Reads as reads
-use Rattle.engine.proofs.step.Lts as lts
-use Rattle.engine.proofs.refuse.Reads as refuse-reads
-use Rattle.engine.proofs.turn_read.Reads as turn-read-reads
-use Rattle.reader.proofs.read.Reads as read-reads
 
 -- src/lib.rt:250:9
 refuse-requires : tie.Need-refuse-requires

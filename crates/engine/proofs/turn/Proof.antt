@@ -8,12 +8,6 @@ use mathlib.Core.Path.{_≡_, ap, sym, _∙_}
 use borrow.Author.Needs.{needs}
 use Rattle.engine.proofs.turn.Statement.{statement}
 use Rattle.engine.proofs.turn.Tie as tie
-use Rattle.engine.proofs.turn.Reads as reads
-use Rattle.engine.proofs.turn.Lts as lts
-use Rattle.engine.proofs.go.Reads as go-reads
-use Rattle.engine.proofs.letter_of.Reads as letter-of-reads
-use Rattle.engine.proofs.refuse.Reads as refuse-reads
-use Rattle.unpack.proofs.unpack.Reads as unpack-reads
 
 -- src/lib.rt:183:69
 slice-aggregate-unpack : tie.Need-slice-aggregate-unpack

@@ -7,9 +7,6 @@ use mathlib.Core.Path.{_≡_, sym}
 use borrow.Author.Needs.{needs}
 use Rattle.engine.proofs.turn_read.Statement.{statement}
 use Rattle.engine.proofs.turn_read.Tie as tie
-use Rattle.engine.proofs.turn_read.Reads as reads
-use Rattle.engine.proofs.turn_read.Lts as lts
-use Rattle.engine.proofs.turn.Reads as turn-reads
 
 -- src/lib.rt:225:26
 array-share-prefix-letters : tie.Need-array-share-prefix-letters

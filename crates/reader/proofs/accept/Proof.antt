@@ -12,12 +12,6 @@ use mathlib.Core.Path.{sym, subst}
 use borrow.Author.Needs.{needs}
 use Rattle.reader.proofs.accept.Statement.{statement}
 use Rattle.reader.proofs.accept.Tie as tie
-use Rattle.reader.proofs.accept.Reads as reads
-use Rattle.reader.proofs.accept.Lts as lts
-use Rattle.limits.proofs.names.ascending.Reads as ascending-reads
-use Rattle.nodes.proofs.make_nodes.Reads as make-nodes-reads
-use Rattle.nodes.proofs.weigh.Reads as weigh-reads
-use Rattle.reader.proofs.lists.letters_of.Reads as letters-of-reads
 
 -- src/lib.rt:82:9
 make-nodes-requires : tie.Need-make-nodes-requires

@@ -13,12 +13,6 @@ use Rattle.paper.specs.Parse.{parse}
 use borrow.Author.Needs.{needs}
 use Rattle.reader.proofs.read.Statement.{statement}
 use Rattle.reader.proofs.read.Tie as tie
-use Rattle.reader.proofs.read.Reads as reads
-use Rattle.reader.proofs.read.Lts as lts
-use Rattle.nodes.proofs.clear.Reads as clear-reads
-use Rattle.reader.proofs.read_text.Reads as read-text-reads
-use Rattle.reader.proofs.refuse.Reads as refuse-reads
-use Rattle.text.proofs.read_lines.Reads as read-lines-reads
 
 -- src/lib.rt:149:5
 clear-requires : tie.Need-clear-requires

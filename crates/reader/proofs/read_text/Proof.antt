@@ -14,11 +14,6 @@ use mathlib.Core.Path.{refl, sym, subst}
 use borrow.Author.Needs.{needs}
 use Rattle.reader.proofs.read_text.Statement.{statement}
 use Rattle.reader.proofs.read_text.Tie as tie
-use Rattle.reader.proofs.read_text.Reads as reads
-use Rattle.reader.proofs.read_text.Lts as lts
-use Rattle.reader.proofs.read_tree.Reads as read-tree-reads
-use Rattle.reader.proofs.refuse.Reads as refuse-reads
-use Rattle.syntax.proofs.read_program.Reads as read-program-reads
 
 -- src/lib.rt:138:28
 slice-aggregate-read-program : tie.Need-slice-aggregate-read-program

@@ -10,11 +10,6 @@ use mathlib.Core.Path.{sym, subst}
 use borrow.Author.Needs.{needs}
 use Rattle.reader.proofs.read_tree.Statement.{statement}
 use Rattle.reader.proofs.read_tree.Tie as tie
-use Rattle.reader.proofs.read_tree.Reads as reads
-use Rattle.reader.proofs.read_tree.Lts as lts
-use Rattle.reader.proofs.accept.Reads as accept-reads
-use Rattle.reader.proofs.checks.check.Reads as check-reads
-use Rattle.reader.proofs.refuse.Reads as refuse-reads
 
 -- src/lib.rt:113:9
 check-requires : tie.Need-check-requires

@@ -6,10 +6,6 @@ use native.Mathlib.Omega.{arith}
 use borrow.Author.Needs.{needs}
 use Rattle.readings.proofs.answer.Statement.{statement}
 use Rattle.readings.proofs.answer.Tie as tie
-use Rattle.readings.proofs.answer.Reads as reads
-use Rattle.readings.proofs.answer.Lts as lts
-use Rattle.io.proofs.read_full.Reads as read-full-reads
-use Rattle.readings.proofs.print_reading.Reads as print-reading-reads
 
 -- src/main.rt:142:41
 slice-relend-prefix-read-full : tie.Need-slice-relend-prefix-read-full

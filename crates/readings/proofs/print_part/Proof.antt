@@ -4,9 +4,6 @@ use lib.Seq.{length-take-le}
 use borrow.Author.Needs.{needs}
 use Rattle.readings.proofs.print_part.Statement.{statement}
 use Rattle.readings.proofs.print_part.Tie as tie
-use Rattle.readings.proofs.print_part.Reads as reads
-use Rattle.readings.proofs.print_part.Lts as lts
-use Rattle.io.proofs.write_all.Reads as write-all-reads
 
 -- src/main.rt:99:38
 slice-aggregate-write-all : tie.Need-slice-aggregate-write-all

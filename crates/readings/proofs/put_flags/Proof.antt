@@ -3,9 +3,6 @@ use Prim.Native.Nat.{_≤_, _-_}
 use borrow.Author.Needs.{needs}
 use Rattle.readings.proofs.put_flags.Statement.{statement}
 use Rattle.readings.proofs.put_flags.Tie as tie
-use Rattle.readings.proofs.put_flags.Reads as reads
-use Rattle.readings.proofs.put_flags.Lts as lts
-use Rattle.readings.proofs.put.Reads as put-reads
 
 abbrev Inv-loop : tie.InvT-loop
 Inv-loop line₀ at flags start end₀ l₀ line end l = l ≤ 26

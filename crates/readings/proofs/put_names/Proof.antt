@@ -3,9 +3,6 @@ use Prim.Native.Nat.{_≤_, _-_}
 use borrow.Author.Needs.{needs}
 use Rattle.readings.proofs.put_names.Statement.{statement}
 use Rattle.readings.proofs.put_names.Tie as tie
-use Rattle.readings.proofs.put_names.Reads as reads
-use Rattle.readings.proofs.put_names.Lts as lts
-use Rattle.readings.proofs.put.Reads as put-reads
 
 abbrev Inv-loop : tie.InvT-loop
 Inv-loop line₀ at base end₀ count letters k₀ line end k = k ≤ 8

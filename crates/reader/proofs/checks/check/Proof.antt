@@ -10,10 +10,6 @@ use mathlib.Core.Path.{sym}
 use borrow.Author.Needs.{needs}
 use Rattle.reader.proofs.checks.check.Statement.{statement}
 use Rattle.reader.proofs.checks.check.Tie as tie
-use Rattle.reader.proofs.checks.check.Reads as reads
-use Rattle.reader.proofs.checks.check.Lts as lts
-use Rattle.limits.proofs.text.over_96.Reads as over-96-reads
-use Rattle.reader.proofs.checks.check_all.Reads as check-all-reads
 
 -- src/checks.rt:82:24
 slice-aggregate-over-96 : tie.Need-slice-aggregate-over-96

@@ -13,13 +13,6 @@ use mathlib.Core.Path.{sym, ap, _∙_}
 use borrow.Author.Needs.{needs}
 use Rattle.reader.proofs.checks.check_all.Statement.{statement}
 use Rattle.reader.proofs.checks.check_all.Tie as tie
-use Rattle.reader.proofs.checks.check_all.Reads as reads
-use Rattle.reader.proofs.checks.check_all.Lts as lts
-use Rattle.limits.proofs.checks.with_letters.Reads as with-letters-reads
-use Rattle.limits.proofs.checks.within_limits.Reads as within-limits-reads
-use Rattle.reader.proofs.checks.for_edition.Reads as for-edition-reads
-use Rattle.reader.proofs.checks.line_found.Reads as line-found-reads
-use Rattle.reader.proofs.lists.lists_of.Reads as lists-of-reads
 
 -- src/checks.rt:66:9
 lists-of-requires : tie.Need-lists-of-requires

@@ -8,8 +8,6 @@ use mathlib.Core.Path.{sym, ap}
 use borrow.Author.Needs.{needs}
 use Rattle.reader.proofs.checks.line_found.Statement.{statement}
 use Rattle.reader.proofs.checks.line_found.Tie as tie
-use Rattle.reader.proofs.checks.line_found.Reads as reads
-use Rattle.reader.proofs.checks.line_found.Lts as lts
 
 -- src/checks.rt:29:1
 returns : tie.Need-returns

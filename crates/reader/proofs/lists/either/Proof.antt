@@ -10,8 +10,6 @@ use mathlib.Core.Bool.{Bool}
 use borrow.Author.Needs.{needs}
 use Rattle.reader.proofs.lists.either.Statement.{statement}
 use Rattle.reader.proofs.lists.either.Tie as tie
-use Rattle.reader.proofs.lists.either.Reads as reads
-use Rattle.reader.proofs.lists.either.Lts as lts
 
 abbrev Inv-loop : tie.InvT-loop
 Inv-loop b flags₀ l₀ flags l = (l ≤ 26) × Joined flags₀ b flags l

@@ -6,9 +6,6 @@ use lib.Seq.{length-take-le}
 use borrow.Author.Needs.{needs}
 use Rattle.reader.proofs.lists.letters_of.Statement.{statement}
 use Rattle.reader.proofs.lists.letters_of.Tie as tie
-use Rattle.reader.proofs.lists.letters_of.Reads as reads
-use Rattle.reader.proofs.lists.letters_of.Lts as lts
-use Rattle.limits.proofs.letters.used.Reads as used-reads
 
 -- src/lists.rt:21:10
 slice-aggregate-used : tie.Need-slice-aggregate-used

@@ -6,10 +6,6 @@ use lib.ListN.{length}
 use borrow.Author.Needs.{needs}
 use Rattle.reader.proofs.lists.lists_of.Statement.{statement}
 use Rattle.reader.proofs.lists.lists_of.Tie as tie
-use Rattle.reader.proofs.lists.lists_of.Reads as reads
-use Rattle.reader.proofs.lists.lists_of.Lts as lts
-use Rattle.reader.proofs.lists.either.Reads as either-reads
-use Rattle.reader.proofs.lists.letters_of.Reads as letters-of-reads
 
 -- src/lists.rt:46:9
 letters-of-requires : tie.Need-letters-of-requires

@@ -1,0 +1,2 @@
+-- What the contracts of discovery cite.
+pub mod Finding
