@@ -239,7 +239,16 @@ fn visit(
         → Visited q x S (now (work .exit)) (now (hashes .exit)) (now (entries .entry)) (now (entries .exit)) (k * (length (now (modules .entry)) + length (now (events .entry)))) r) ⌝ }
 {
     let from = 128 * k;
-    let u = unpack(nodes, weights, modules, events, fugitive, &work[from..from + 128], w, tmp);
+    let u = unpack(
+        nodes,
+        weights,
+        modules,
+        events,
+        fugitive,
+        &work[from..from + 128],
+        w,
+        tmp,
+    );
     let start = u.start;
     let memory = u.memory;
     let stopped = u.stopped;

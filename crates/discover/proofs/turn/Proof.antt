@@ -41,7 +41,7 @@ letter-at-requires c κs = omega (arith, c .before .loop .inv)
 
 -- src/lib.rt:193:13
 arrive-requires : tie.Need-arrive-requires Inv-loop μ-loop
-arrive-requires c κs = 
+arrive-requires c κs =
     let q = c .before .before .before .before .before .before .before .before .before .before .before .before .before .before .before .before .pre .0 .program in
     let t = c .before .before .before .before .before .before .loop .inv .1 .1 .1 q (c .before .before .before .before .before .before .before .before .before .before .before .before .before .before .before .before .pre .0 .loaded) (c .before .before .before .before .before .before .before .before .before .before .before .before .before .before .before .before .pre .0 .kinds) (c .before .before .before .before .before .before .before .before .before .before .before .before .before .before .before .before .pre .0 .written) (c .before .before .before .before .before .before .before .before .before .before .before .before .before .before .before .before .pre .0 .states) (c .before .before .before .before .before .before .before .before .before .before .before .before .before .before .before .before .pre .0 .seen) (c .before .before .before .before .before .before .before .before .before .before .before .before .before .before .before .before .pre .0 .count-is) in (
       record {
@@ -116,14 +116,20 @@ loop-less c = omega (arith, c .before .before .before .before .before .before .b
 -- src/lib.rt:191:5
 loop-again : tie.Need-loop-again Inv-loop μ-loop
 loop-again c = (
-      (omega (arith, c .before .before .before .before .before .before .before .before .before .arrive .kept, c .before .before .before .before .before .before .before .before .before .before .before .before .before .before .before .before .loop .inv .0), (omega (arith, c .before .before .before .before .before .before .before .before .before .arrive .kept, c .before .before .before .before .before .before .before .before .before .before .before .before .before .before .before .before .loop .inv .0), (omega (arith, c .before .before .before .before .before .before .before .before .before .arrive .kept, c .before .before .before .before .before .before .before .before .before .before .before .before .before .before .before .before .loop .inv .0), (omega (arith, c .before .before .before .before .before .before .before .before .before .arrive .kept, c .before .before .before .before .before .before .before .before .before .before .before .before .before .before .before .before .loop .inv .0), simp length-set (c .before .before .before .before .before .before .before .before .before .before .before .before .before .before .before .before .loop .inv .0 .1 .1 .1 .1))))),
-      (omega (arith, c .before .before .before .before .before .before .before .before .before .before .before .before .before .before .before .loop-test .taken), (c .before .before .before .before .before .before .before .before .before .before .before .before .before .before .before .before .loop .inv .1 .1 .0, λ q d k v ss h e.
-      let t = c .before .before .before .before .before .before .before .before .before .before .before .before .before .before .before .before .loop .inv .1 .1 .1 q d k v ss h e in
-      let n = c .before .before .before .before .before .before .before .before .before .before .before .before .before .before .letter-at .ensures q (d .its) in
-      let a = stated-of q (c .before .before .before .before .before .before .before .before .before .before .before .before .before .before .before .before .before .before .before .before .before .before .before .before .before .before .args .nodes .now) (c .before .before .before .before .before .before .before .before .before .before .before .before .before .before .before .before .before .before .before .before .before .before .before .before .before .before .args .modules .now) (c .before .before .before .before .before .before .before .before .before .before .before .before .before .before .before .before .before .before .before .before .before .before .before .before .before .before .args .w .now) (c .before .before .before .before .before .before .before .before .before .before .before .before .before .before .before .before .before .before .before .before .before .before .before .before .before .before .args .s) (c .before .before .before .before .before .before .before .before .before .before .before .before .before .before .before .before .before .before .before .before .before .before .before .before .before .before .args .memory) (c .before .before .before .before .before .before .before .before .before .before .before .before .before .before .before .before .before .before .before .before .before .before .before .before .before .before .args .stopped) _ v (c .before .before .before .before .before .before .before .before .before .before .before .before .before .before .before .before .loop .j) _ n in
-      turning-next q (stateOf (c .before .before .before .before .before .before .before .before .before .before .before .before .before .before .before .before .before .before .before .before .before .before .before .before .before .before .args .nodes .now) (c .before .before .before .before .before .before .before .before .before .before .before .before .before .before .before .before .before .before .before .before .before .before .before .before .before .before .args .w .now) (c .before .before .before .before .before .before .before .before .before .before .before .before .before .before .before .before .before .before .before .before .before .before .before .before .before .before .args .s) (c .before .before .before .before .before .before .before .before .before .before .before .before .before .before .before .before .before .before .before .before .before .before .before .before .before .before .args .memory) (c .before .before .before .before .before .before .before .before .before .before .before .before .before .before .before .before .before .before .before .before .before .before .before .before .before .before .args .modules .now) (c .before .before .before .before .before .before .before .before .before .before .before .before .before .before .before .before .before .before .before .before .before .before .before .before .before .before .args .stopped)) ss (c .before .before .before .before .before .before .before .before .before .before .before .before .before .before .before .before .loop .work) (c .before .before .before .before .before .before .before .before .before .before .before .before .before .before .before .before .loop .hashes) (c .before .before .before .before .before .before .before .before .before .before .before .before .before .before .before .before .before .before .before .before .before .before .before .before .before .before .args .entries .now) (c .before .before .before .before .before .before .before .before .before .before .before .before .before .before .before .before .loop .entries) (c .before .before .before .before .before .before .before .before .before .before .before .before .before .before .before .before .before .before .before .before .before .before .before .before .before .before .args .at) (c .before .before .before .before .before .before .before .before .before .before .before .before .before .before .before .before .loop .j) (c .before .before .before .before .before .before .before .before .before .before .before .before .before .before .before .before .loop .seen) t _ _ n (c .before .before .before .before .before .before .before .before .before .arrive .last .1 .1 .1 .1 .1 .1 .1 .1 .1 .1 .1 .0) (c .before .before .before .before .before .before .before .before .before .arrive .last .1 .1 .1 .1 .1 .1 .1 .1 .1 .1 .1 .1 .0) (c .before .before .before .before .before .before .before .before .before .arrive .result)
-      (c .before .before .before .before .before .before .before .before .before .arrive .ensures q d k a (met q (stateOf (c .before .before .before .before .before .before .before .before .before .before .before .before .before .before .before .before .before .before .before .before .before .before .before .before .before .before .args .nodes .now) (c .before .before .before .before .before .before .before .before .before .before .before .before .before .before .before .before .before .before .before .before .before .before .before .before .before .before .args .w .now) (c .before .before .before .before .before .before .before .before .before .before .before .before .before .before .before .before .before .before .before .before .before .before .before .before .before .before .args .s) (c .before .before .before .before .before .before .before .before .before .before .before .before .before .before .before .before .before .before .before .before .before .before .before .before .before .before .args .memory) (c .before .before .before .before .before .before .before .before .before .before .before .before .before .before .before .before .before .before .before .before .before .before .before .before .before .before .args .modules .now) (c .before .before .before .before .before .before .before .before .before .before .before .before .before .before .before .before .before .before .before .before .before .before .before .before .before .before .args .stopped)) (take (c .before .before .before .before .before .before .before .before .before .before .before .before .before .before .before .before .loop .j) (letters q)) ss) (t .seen) (sym (t .count-is))) (c .if1 .left) (omega (arith, c .before .before .before .before .before .before .before .before .before .before .before .before .before .before .before .before .before .before .before .before .before .before .before .before .before .before .pre .1 .1, c .before .before .before .before .before .before .before .before .before .before .before .before .before .before .before .before .loop .inv, c .before .before .before .before .before .before .before .before .before .before .before .before .before .before .before .loop-test .taken)))),
-    )
+  (omega (arith, c .before .before .before .before .before .before .before .before .before .arrive .kept, c .before .before .before .before .before .before .before .before .before .before .before .before .before .before .before .before .loop .inv .0), (omega (arith, c .before .before .before .before .before .before .before .before .before .arrive .kept, c .before .before .before .before .before .before .before .before .before .before .before .before .before .before .before .before .loop .inv .0), (omega (arith, c .before .before .before .before .before .before .before .before .before .arrive .kept, c .before .before .before .before .before .before .before .before .before .before .before .before .before .before .before .before .loop .inv .0), (omega (arith, c .before .before .before .before .before .before .before .before .before .arrive .kept, c .before .before .before .before .before .before .before .before .before .before .before .before .before .before .before .before .loop .inv .0), simp length-set (c .before .before .before .before .before .before .before .before .before .before .before .before .before .before .before .before .loop .inv .0 .1 .1 .1 .1))))),
+  (
+    omega (arith, c .before .before .before .before .before .before .before .before .before .before .before .before .before .before .before .loop-test .taken),
+    (
+      c .before .before .before .before .before .before .before .before .before .before .before .before .before .before .before .before .loop .inv .1 .1 .0,
+      λ q d k v ss h e.
+          let t = c .before .before .before .before .before .before .before .before .before .before .before .before .before .before .before .before .loop .inv .1 .1 .1 q d k v ss h e in
+          let n = c .before .before .before .before .before .before .before .before .before .before .before .before .before .before .letter-at .ensures q (d .its) in
+          let a = stated-of q (c .before .before .before .before .before .before .before .before .before .before .before .before .before .before .before .before .before .before .before .before .before .before .before .before .before .before .args .nodes .now) (c .before .before .before .before .before .before .before .before .before .before .before .before .before .before .before .before .before .before .before .before .before .before .before .before .before .before .args .modules .now) (c .before .before .before .before .before .before .before .before .before .before .before .before .before .before .before .before .before .before .before .before .before .before .before .before .before .before .args .w .now) (c .before .before .before .before .before .before .before .before .before .before .before .before .before .before .before .before .before .before .before .before .before .before .before .before .before .before .args .s) (c .before .before .before .before .before .before .before .before .before .before .before .before .before .before .before .before .before .before .before .before .before .before .before .before .before .before .args .memory) (c .before .before .before .before .before .before .before .before .before .before .before .before .before .before .before .before .before .before .before .before .before .before .before .before .before .before .args .stopped) _ v (c .before .before .before .before .before .before .before .before .before .before .before .before .before .before .before .before .loop .j) _ n in
+          turning-next q (stateOf (c .before .before .before .before .before .before .before .before .before .before .before .before .before .before .before .before .before .before .before .before .before .before .before .before .before .before .args .nodes .now) (c .before .before .before .before .before .before .before .before .before .before .before .before .before .before .before .before .before .before .before .before .before .before .before .before .before .before .args .w .now) (c .before .before .before .before .before .before .before .before .before .before .before .before .before .before .before .before .before .before .before .before .before .before .before .before .before .before .args .s) (c .before .before .before .before .before .before .before .before .before .before .before .before .before .before .before .before .before .before .before .before .before .before .before .before .before .before .args .memory) (c .before .before .before .before .before .before .before .before .before .before .before .before .before .before .before .before .before .before .before .before .before .before .before .before .before .before .args .modules .now) (c .before .before .before .before .before .before .before .before .before .before .before .before .before .before .before .before .before .before .before .before .before .before .before .before .before .before .args .stopped)) ss (c .before .before .before .before .before .before .before .before .before .before .before .before .before .before .before .before .loop .work) (c .before .before .before .before .before .before .before .before .before .before .before .before .before .before .before .before .loop .hashes) (c .before .before .before .before .before .before .before .before .before .before .before .before .before .before .before .before .before .before .before .before .before .before .before .before .before .before .args .entries .now) (c .before .before .before .before .before .before .before .before .before .before .before .before .before .before .before .before .loop .entries) (c .before .before .before .before .before .before .before .before .before .before .before .before .before .before .before .before .before .before .before .before .before .before .before .before .before .before .args .at) (c .before .before .before .before .before .before .before .before .before .before .before .before .before .before .before .before .loop .j) (c .before .before .before .before .before .before .before .before .before .before .before .before .before .before .before .before .loop .seen) t _ _ n (c .before .before .before .before .before .before .before .before .before .arrive .last .1 .1 .1 .1 .1 .1 .1 .1 .1 .1 .1 .0) (c .before .before .before .before .before .before .before .before .before .arrive .last .1 .1 .1 .1 .1 .1 .1 .1 .1 .1 .1 .1 .0) (c .before .before .before .before .before .before .before .before .before .arrive .result)
+          (c .before .before .before .before .before .before .before .before .before .arrive .ensures q d k a (met q (stateOf (c .before .before .before .before .before .before .before .before .before .before .before .before .before .before .before .before .before .before .before .before .before .before .before .before .before .before .args .nodes .now) (c .before .before .before .before .before .before .before .before .before .before .before .before .before .before .before .before .before .before .before .before .before .before .before .before .before .before .args .w .now) (c .before .before .before .before .before .before .before .before .before .before .before .before .before .before .before .before .before .before .before .before .before .before .before .before .before .before .args .s) (c .before .before .before .before .before .before .before .before .before .before .before .before .before .before .before .before .before .before .before .before .before .before .before .before .before .before .args .memory) (c .before .before .before .before .before .before .before .before .before .before .before .before .before .before .before .before .before .before .before .before .before .before .before .before .before .before .args .modules .now) (c .before .before .before .before .before .before .before .before .before .before .before .before .before .before .before .before .before .before .before .before .before .before .before .before .before .before .args .stopped)) (take (c .before .before .before .before .before .before .before .before .before .before .before .before .before .before .before .before .loop .j) (letters q)) ss) (t .seen) (sym (t .count-is))) (c .if1 .left) (omega (arith, c .before .before .before .before .before .before .before .before .before .before .before .before .before .before .before .before .before .before .before .before .before .before .before .before .before .before .pre .1 .1, c .before .before .before .before .before .before .before .before .before .before .before .before .before .before .before .before .loop .inv, c .before .before .before .before .before .before .before .before .before .before .before .before .before .before .before .loop-test .taken)),
+    ),
+  ),
+)
 
 -- src/lib.rt:163:1
 same-length-6 : tie.Need-same-length-6 Inv-loop μ-loop
