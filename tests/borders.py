@@ -4,7 +4,7 @@
     borders.py frames    the files as a stream: two length bytes, high first, and the bytes
     borders.py answers   two lines for each file, for Basic and for Adaptive: its refusal, or `read`
 
-The answers are written here by hand, from document 01, and are none of the programs'.
+The answers are written here by hand, from document 01, and are none of the programs'. The number of files goes to standard error.
 """
 import sys
 
@@ -111,6 +111,7 @@ def main():
             out.write(f"{basic}\n{adaptive}\n".encode())
         else:
             sys.exit(__doc__)
+    print(f"{len(CASES)} frames", file=sys.stderr)
 
 
 if __name__ == "__main__":

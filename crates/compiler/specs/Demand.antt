@@ -24,7 +24,7 @@ use Rattle.paper.specs.Calls.{Compiled}
 use Rattle.layout.specs.Says.{fugitiveAt}
 use Rattle.laws.proofs.Members.{Distinct}
 
--- in the order of discovery; asked only below the counts
+-- asked only below the counts
 abbrev pub letterAt : Program → ℕ → Letter
 letterAt q l = getD (letters q) l (completion 0)
 
@@ -38,7 +38,7 @@ pub record TableRight (q : Program) (t : List ℕ) (states : ℕ) : Type 0 where
   pub start-first : (more : List State) × (discovered q .seen ≡ startOf q ∷ more)
   pub none-waits : discovered q .todo ≡ []
   pub counted : states ≡ length (discovered q .seen)
-  -- the bytes are a table, that of the program, and of no other
+  -- the bytes are a table, that of the program
   pub is-written : t ≡ written (tableOf q (discovered q .seen))
   pub is-table : isTable t ≡ true
   -- "states less one", "names ascending", "one bit for each event, 1 for fugitive; one for each module, 1 if it runs at the start"

@@ -137,7 +137,8 @@ fn compile(file: &[u8], basic: bool, output: &mut [u8], work: &mut [u8]) -> Comp
     }
 }
 
-// Compile for Basic: No. 1 to 18.
+// Compile for Basic: No. 1 to 18. Ruled out (must-fail/): every file refused, one table for every file, a number of states that was not counted, a refusal
+// that touches the output or leaves the working slice, No. 18 before 17, and Basic's and Adaptive's readings exchanged.
 pub fn compile_basic(file: &[u8], output: &mut [u8], work: &mut [u8]) -> Compiled
     ensures { λ r. ⌜ outcome r (now (output .exit)) (now (work .exit)) ≡ compiled parse editions.basic (now (file .entry)) (now (output .entry)) (now (work .entry)) ⌝ }
 {
