@@ -1,13 +1,7 @@
 /* Table start and step in plain C, with the whole of check 19: what the proved calls are measured against.
    The same job in the same way: a field is read through a window of eight bytes, and nothing of a table is copied. */
 
-typedef unsigned char u8;
-typedef unsigned long usize;
-
-struct answer {
-    usize number, place, state;
-    u8 orders[8];
-};
+#include "plain.h"
 
 struct counts {
     usize modules, events, states;
@@ -103,25 +97,25 @@ static int checked(const u8 *t, usize n, struct counts *c) {
            rows_right(t, n, *c) && field(t, n, end, 8 * n - end) == 0;
 }
 
-static struct answer refusal(usize number) {
-    return (struct answer){.number = number};
+static struct plain_table refusal(usize number) {
+    return (struct plain_table){.number = number};
 }
 
-static struct answer goes(const u8 *t, usize n, usize state, usize bit, usize width, usize modules) {
-    struct answer a = {.state = state};
+static struct plain_table goes(const u8 *t, usize n, usize state, usize bit, usize width, usize modules) {
+    struct plain_table a = {.state = state};
     for (usize k = 0; k < modules; k++)
         a.orders[k] = field(t, n, bit + width * k, width);
     return a;
 }
 
-struct answer plain_table_start(const u8 *t, usize n) {
+struct plain_table plain_table_start(const u8 *t, usize n) {
     struct counts c;
     if (!checked(t, n, &c))
         return refusal(19);
     return goes(t, n, 0, 24 + 5 * (c.modules + c.events) + c.events, 1, c.modules);
 }
 
-struct answer plain_table_step(const u8 *t, usize n, usize state, u8 letter) {
+struct plain_table plain_table_step(const u8 *t, usize n, usize state, u8 letter) {
     struct counts c;
     if (!checked(t, n, &c))
         return refusal(19);
