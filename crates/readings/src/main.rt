@@ -3,7 +3,7 @@
 // the program's nodes in postorder. A frame that is cut short ends the run.
 use libc::STDIN_FILENO;
 use libc::STDOUT_FILENO;
-use limits::names::Names;
+use letters::Names;
 use reader::Program;
 use reader::Verdict;
 ghost use Prim.Native.Nat.{_≤_, _<_};
