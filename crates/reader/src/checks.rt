@@ -21,9 +21,9 @@ use limits::Checked;
 use limits::for_basic;
 use limits::with_letters;
 use limits::within_limits;
-use tokens::over_96;
 use text::Lines;
 use text::Span;
+use tokens::over_96;
 
 // Where a line stands, if it is there.
 fn line_found(span: Span) -> Found

@@ -7,8 +7,8 @@ ghost use lib.ListN.{length, getD};
 ghost use Rattle.letters.specs.Letters.{TellsFrom};
 ghost use lib.Seq.{slice};
 ghost use Rattle.reader.specs.Stages.{Taken, Listing};
-use limits::Lists;
 use letters::used;
+use limits::Lists;
 use text::Lines;
 use text::Span;
 
