@@ -87,7 +87,7 @@ fn put(work: &mut [u8], at: usize, b: &[u8; 128])
 }
 
 // The number of the state b among the first `count`, and how many there are then: a new one is put behind them, unless they are 512. Ruled out
-// (must-fail/): a state taken for another that has its hash, a block that runs over the one before, a hash that is not stored.
+// (must-fail/): a state taken for another that has its hash, a block that runs over the one before.
 pub fn enroll(work: &mut [u8], hashes: &mut [usize], count: usize, b: &[u8; 128]) -> Enrolled
     requires { ⌜ (65536 ≤ length (now work)) × ((512 ≤ length (now hashes)) × (count ≤ 512)) ⌝ }
     ensures { λ r. ⌜ ((cs : List (List ℕ)) → Holds (now (work .entry)) (now (hashes .entry)) cs → length cs ≡ count → Enrolls cs (now (b .entry)) (now (work .exit)) (now (hashes .exit)) r) ⌝ }
