@@ -28,10 +28,10 @@ use Rattle.laws.proofs.Names.{or-in-left, or-in-right, or-each, or-both}
 use Rattle.laws.proofs.Ordered.{checks, Clear, programmed-first, first-accepts}
 use Rattle.laws.proofs.Parsing.{parse-program}
 use Rattle.laws.proofs.Tokens.{room-below, few-tokens}
-use Rattle.limits.specs.Nodes.{isStar as isStarCode, isJoin, sharing}
-use Rattle.limits.proofs.Few.{ninth-few}
-use Rattle.limits.proofs.Least.{fold}
-use Rattle.limits.proofs.Uses.{isAlpha, sequence-uses}
+use Rattle.stars.specs.Nodes.{isStar as isStarCode, isJoin, sharing}
+use Rattle.letters.proofs.Few.{ninth-few}
+use Rattle.stars.proofs.Least.{fold}
+use Rattle.joins.proofs.Uses.{isAlpha, sequence-uses}
 use Rattle.nodes.specs.Made.{Made, made}
 use Rattle.nodes.specs.ByTerm.{madeOf}
 use Rattle.nodes.proofs.ByTerm.{made-of}

@@ -15,6 +15,7 @@ use Rattle.paper.specs.Discovery.{eqS, hasS, finds, Among, letters}
 use Rattle.paper.specs.Table.{numberOf, entryOf}
 use Rattle.paper.specs.Calls.{eight}
 use Rattle.paper.proofs.Choices.{by-test, clash}
+use Rattle.paper.proofs.Stays.{T-true}
 use Rattle.paper.proofs.Equal.{eqS-sound, eqS-refl, eqL-sound, eqL-refl}
 use Rattle.laws.proofs.Letters.{false-not}
 use Rattle.laws.proofs.Members.{Has, has-head, has-tail, has-cases, has-append, has-none}
@@ -29,7 +30,7 @@ use Rattle.slots.specs.declared.Enrolled.{Enrolled}
 use Rattle.slots.specs.Slots.{Holds, numberIn, enrolled, Enrolls}
 use Rattle.slots.proofs.Enrolling.{enrolled-known, enrolled-full, enrolled-new}
 use Rattle.slots.proofs.Numbers.{number-within}
-use Rattle.discover.specs.Finding.{entered, met, Seen, Arrives}
+use Rattle.discover.specs.Finding.{entered, met, Numbered, Seen, Arrives}
 use Rattle.discover.proofs.Turning.{after, finds-one}
 
 same-tests : (a b : Bool) → (T a → T b) → (T b → T a) → a ≡ b
@@ -148,22 +149,40 @@ module _ (q : Program) (f : Fit q) (x : State) (l : Letter) (ss : List State) wh
       e
 
   -- not possible: no state more, an entry of zeros
-  pub arrives-none : (W H : List ℕ) → Seen q W H ss → possible l x ≡ false → (c : ℕ) → length ss ≡ c → Arrives q x l ss W H (record { over = false; count = c; entry = 0 })
-  arrives-none W H s e c k = record {
+  pub arrives-none : (W X : List ℕ) → Seen q W X ss → possible l x ≡ false → (c : ℕ) → length ss ≡ c → Arrives q x l ss W X (record { over = false; count = c; entry = 0 })
+  arrives-none W X s e c k = record {
     over = λ o. clash (cc);
-    seen = λ o. subst (Seen q W H) (sym (met-none e)) s;
+    seen = λ o. subst (Seen q W X) (sym (met-none e)) s;
     count-is = λ o. sym k ∙ ap length (sym (met-none e));
     entry-is = λ o more. sym (entered-none e (met q x (l ∷ []) ss ++ more));
   }
 
-  module _ (W₀ H₀ : List ℕ) (s : Seen q W₀ H₀ ss) (v : Written q n) (e : possible l x ≡ true) (W H : List ℕ) (r : Enrolled) (t : Enrolls (map (code q) ss) (code q n) W H r) where
+  -- it leads back to the state itself, the k-th
+  pub arrives-back : (W X : List ℕ) → Seen q W X ss → possible l x ≡ true → n ≡ x → (k : ℕ) → Numbered x ss k → (os : List ℕ) → os ≡ eight (reaction q l x .does) → (c b : ℕ) → length ss ≡ c → b ≡ ordersFrom (512 + k) os → Arrives q x l ss W X (record { over = false; count = c; entry = b })
+  arrives-back W X s e i k j os d c b h z =
+      let there : Has x ss = number-listed x ss (omega (arith, j .0, j .1)) in
+      let m = met-old e (T-true (hasS n ss) (subst (λ (y : State). Has y ss) (sym i) there)) in
+      record {
+        over = λ o. clash (cc);
+        seen = λ o. subst (Seen q W X) (sym m) s;
+        count-is = λ o. sym h ∙ ap length (sym m);
+        entry-is = λ o more.
+            let g : k ≡ numberOf n (met q x (l ∷ []) ss ++ more) =
+            sym (j .0) ∙ (sym (number-front x ss more there)
+            ∙ (ap (λ (y : State). numberOf y (ss ++ more)) (sym i) ∙ ap (λ (y : List State). numberOf n (y ++ more)) (sym m)))
+            in
+            z ∙ (ap (λ (y : ℕ). ordersFrom (512 + y) os) g ∙ (ap (ordersFrom (512 + numberOf n (met q x (l ∷ []) ss ++ more))) d
+            ∙ sym (entered-next e (met q x (l ∷ []) ss ++ more))));
+      }
+
+  module _ (W₀ X₀ : List ℕ) (s : Seen q W₀ X₀ ss) (v : Written q n) (e : possible l x ≡ true) (W X : List ℕ) (r : Enrolled) (t : Enrolls (map (code q) ss) (code q n) W X r) where
     its-number : r .number ≡ numberOf n ss
     its-number = t .number-is ∙ number-code q f n ss v (s .written)
 
     few : length ss ≤ 512
     few = omega (arith, s .held .few, length-map ss (code q))
 
-    pub arrives-over : 512 ≤ r .number → (c b : ℕ) → Arrives q x l ss W H (record { over = true; count = c; entry = b })
+    pub arrives-over : 512 ≤ r .number → (c b : ℕ) → Arrives q x l ss W X (record { over = true; count = c; entry = b })
     arrives-over h c b = record {
       over = λ o. by-has (hasS n ss) refl;
       seen = λ o. clash (cc);
@@ -176,19 +195,19 @@ module _ (q : Program) (f : Fit q) (x : State) (l : Letter) (ss : List State) wh
         by-has false k =
             omega (arith, ap length (met-new e k), length-append ss (n ∷ []), its-number, number-most n ss)
 
-    pub arrives-on : r .number < 512 → (os : List ℕ) → os ≡ eight (reaction q l x .does) → (b : ℕ) → b ≡ ordersFrom (512 + r .number) os → Arrives q x l ss W H (record { over = false; count = r .count; entry = b })
+    pub arrives-on : r .number < 512 → (os : List ℕ) → os ≡ eight (reaction q l x .does) → (b : ℕ) → b ≡ ordersFrom (512 + r .number) os → Arrives q x l ss W X (record { over = false; count = r .count; entry = b })
     arrives-on h os d b z = by-has (hasS n ss) refl
       where
         entry-from : (m : ℕ) → r .number ≡ m → b ≡ ordersFrom (512 + m) (eight (reaction q l x .does))
         entry-from m k = z ∙ (ap (λ (i : ℕ). ordersFrom (512 + i) os) k ∙ ap (ordersFrom (512 + m)) d)
 
-        by-has : (c : Bool) → hasS n ss ≡ c → Arrives q x l ss W H (record { over = false; count = r .count; entry = b })
+        by-has : (c : Bool) → hasS n ss ≡ c → Arrives q x l ss W X (record { over = false; count = r .count; entry = b })
         by-has true k =
             let a = enrolled-old q f n ss v (s .written) (true-holds (hasS n ss) k) in
             let m = met-old e k in
             record {
               over = λ o. clash (cc);
-              seen = λ o. subst (Seen q W H) (sym m) (record { held = subst (Holds W H) a (t .holds); written = s .written });
+              seen = λ o. subst (Seen q W X) (sym m) (record { held = subst (Holds W X) a (t .holds); written = s .written });
               count-is = λ o. t .count-is ∙ (ap length a ∙ (length-map ss (code q) ∙ ap length (sym m)));
               entry-is = λ o more.
                   entry-from (numberOf n (met q x (l ∷ []) ss ++ more))
@@ -204,8 +223,8 @@ module _ (q : Program) (f : Fit q) (x : State) (l : Letter) (ss : List State) wh
             record {
               over = λ o. clash (cc);
               seen = λ o.
-                  subst (Seen q W H) (sym m)
-                  (record { held = subst (Holds W H) a (t .holds); written = λ z u. ⊎-elim (s .written z) (λ w. subst (Written q) (sym (has-one z n w)) v) (has-append z ss (n ∷ []) u) });
+                  subst (Seen q W X) (sym m)
+                  (record { held = subst (Holds W X) a (t .holds); written = λ z u. ⊎-elim (s .written z) (λ w. subst (Written q) (sym (has-one z n w)) v) (has-append z ss (n ∷ []) u) });
               count-is = λ o. t .count-is ∙ (ap length a ∙ (length-map (ss ++ n ∷ []) (code q) ∙ ap length (sym m)));
               entry-is = λ o more.
                   entry-from (numberOf n (met q x (l ∷ []) ss ++ more))

@@ -130,7 +130,7 @@ module _ (q : Program) where
 -- ---- turn by turn
 
 module _ (q : Program) where
-  pub explore-begin : {K H E : List ℕ} → Seen q K H (startOf q ∷ []) → Exploring q K H E 0 1 false
+  pub explore-begin : {K X E : List ℕ} → Seen q K X (startOf q ∷ []) → Exploring q K X E 0 1 false
   unfolding discover tooLarge gather
   explore-begin {E = E} s = record {
     seen = s;
@@ -147,7 +147,7 @@ module _ (q : Program) where
       ∙ sym (gather-append (λ s. map (entered q all s) (letters q)) xs (x ∷ []))
 
   -- there are at most 512
-  pub explore-few : {K H E : List ℕ} {k n : ℕ} {large : Bool} → Exploring q K H E k n large → n ≤ 512
+  pub explore-few : {K X E : List ℕ} {k n : ℕ} {large : Bool} → Exploring q K X E k n large → n ≤ 512
   explore-few {k = k} x = omega (arith, x .seen .held .few, length-map (turned q k .seen) (code q), x .count-is)
 
   -- more turns find nothing where no state waits
@@ -156,7 +156,7 @@ module _ (q : Program) where
   ended k h w = let e : 512 ≡ (512 - k) + k = omega arith in discover-ended q (512 - k) k 512 (startOf q ∷ []) (startOf q ∷ []) e w
 
   -- no state waits any more
-  pub explore-end : {K H E : List ℕ} {k n : ℕ} {large : Bool} → Exploring q K H E k n large → n ≤ k → k ≤ n → Explored q E (record { over = false; large = large; count = n })
+  pub explore-end : {K X E : List ℕ} {k n : ℕ} {large : Bool} → Exploring q K X E k n large → n ≤ k → k ≤ n → Explored q E (record { over = false; large = large; count = n })
   explore-end {E = E} {k = k} {n = n} {large = large} x h g =
       let few : n ≤ 512 = explore-few x in
       let long : length (turned q k .seen) ≤ k = omega (arith, x .count-is) in
@@ -184,7 +184,7 @@ module _ (q : Program) where
       by-size e = ap (λ (b : Bool). unless (where-if b 0) 18 (accepted (discovered q .seen))) e
 
   -- a turn of the state k, where `v` says what it left
-  module _ {K H E : List ℕ} {k n : ℕ} {large : Bool} (t : Exploring q K H E k n large) (more-wait : k < n) where
+  module _ {K X E : List ℕ} {k n : ℕ} {large : Bool} (t : Exploring q K X E k n large) (more-wait : k < n) where
     abbrev ss : List State
     ss = turned q k .seen
 
@@ -203,10 +203,10 @@ module _ (q : Program) where
     front-on : take (suc k) (turned q (suc k) .seen) ≡ take k ss ++ its .0 ∷ []
     front-on = ap (take (suc k)) seen-on ∙ take-joined k ss (its .0) (its .1) (its .2) new
 
-    module _ (ms es : List ℕ) (own : Letters q ms es) {K′ H′ F : List ℕ} {a : Turned} (v : (x : State) → (rest : List State) → drop k ss ≡ x ∷ rest → Visited q x ss K′ H′ E F (k * (length ms + length es)) a) where
-      its-turn : Visited q (its .0) ss K′ H′ E F (k * length (letters q)) a
+    module _ (ms es : List ℕ) (own : Letters q ms es) {K′ X′ F : List ℕ} {a : Turned} (v : (x : State) → (rest : List State) → drop k ss ≡ x ∷ rest → Visited q x ss K′ X′ E F (k * (length ms + length es)) a) where
+      its-turn : Visited q (its .0) ss K′ X′ E F (k * length (letters q)) a
       its-turn =
-          subst (λ (l : ℕ). Visited q (its .0) ss K′ H′ E F (k * l) a) (sym (letters-long q ms es own)) (v (its .0) (its .1) (its .2))
+          subst (λ (l : ℕ). Visited q (its .0) ss K′ X′ E F (k * l) a) (sym (letters-long q ms es own)) (v (its .0) (its .1) (its .2))
 
       -- one state too many
       pub explore-over : a .over ≡ true → discovering q ≡ refused 17 0
@@ -226,9 +226,9 @@ module _ (q : Program) where
         pub explore-grows : k + 1 ≤ a .count
         explore-grows = omega (arith, its-turn .turns .count-is o, length-append ss new, t .count-is)
 
-        next-on : (b : Bool) → b ≡ (large || a .large) → Exploring q K′ H′ F (suc k) (a .count) b
+        next-on : (b : Bool) → b ≡ (large || a .large) → Exploring q K′ X′ F (suc k) (a .count) b
         next-on b z = record {
-          seen = subst (Seen q K′ H′) (sym seen-on) (its-turn .turns .seen o);
+          seen = subst (Seen q K′ X′) (sym seen-on) (its-turn .turns .seen o);
           count-is = ap length seen-on ∙ sym (its-turn .turns .count-is o);
           waiting =
               ap (λ (f : Found). f .todo) on
@@ -249,8 +249,8 @@ module _ (q : Program) where
         }
 
         -- one turn more
-        pub explore-next : (b : Bool) → b ≡ (large || a .large) → Exploring q K′ H′ F (k + 1) (a .count) b
-        explore-next b z = subst (λ (i : ℕ). Exploring q K′ H′ F i (a .count) b) (sym (add-one k)) (next-on b z)
+        pub explore-next : (b : Bool) → b ≡ (large || a .large) → Exploring q K′ X′ F (k + 1) (a .count) b
+        explore-next b z = subst (λ (i : ℕ). Exploring q K′ X′ F i (a .count) b) (sym (add-one k)) (next-on b z)
 
       -- the answer where there is one too many
       pub explored-over : a .over ≡ true → Explored q F (record { over = true; large = false; count = 0 })
@@ -265,10 +265,10 @@ module _ (q : Program) where
 -- ---- the start
 
 -- the start stands alone where its code was enrolled first
-pub seen-start : (q : Program) → Fit q → {W H b : List ℕ} {r : Enrolled} → Enrolls [] b W H r → b ≡ code q (startOf q) → Seen q W H (startOf q ∷ [])
+pub seen-start : (q : Program) → Fit q → {W X b : List ℕ} {r : Enrolled} → Enrolls [] b W X r → b ≡ code q (startOf q) → Seen q W X (startOf q ∷ [])
 unfolding enrolled numberIn
-seen-start q f {W} {H} t e = record {
-  held = subst (λ (c : List ℕ). Holds W H (c ∷ [])) e (t .holds);
+seen-start q f {W} {X} t e = record {
+  held = subst (λ (c : List ℕ). Holds W X (c ∷ [])) e (t .holds);
   written = λ s h.
       ⊎-elim
       (λ y. subst (Written q) (sym (eqS-sound s (startOf q) y)) (start-in q f))

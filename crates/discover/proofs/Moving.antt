@@ -22,7 +22,7 @@ use Rattle.discover.specs.Finding.{Seen, Arrives}
 use Rattle.discover.proofs.Arriving.{arrives-none, arrives-over, arrives-on}
 
 pub runs-copied : (P ms es : List ℕ) (fs : List Bool) (W N : List ℕ) (s : ℕ) (m : Memory) (st : List ℕ) (l : Letter) → N ≡ W → Runs P ms es fs W s m st l → Runs P ms es fs N s m st l
-runs-copied P ms es fs W N s m st l e r = subst (λ (X : List ℕ). Runs P ms es fs X s m st l) (sym e) r
+runs-copied P ms es fs W N s m st l e r = subst (λ (Z : List ℕ). Runs P ms es fs Z s m st l) (sym e) r
 
 -- the answer's number says whether the letter is possible, and where it is, orders and bytes are the reaction's
 module _ (q : Program) (l : Letter) (x : State) (live live′ : List ℕ) (r : Answer) (e : outcome r live′ ≡ reactedTo q l x live) where
@@ -53,24 +53,24 @@ module _ (q : Program) (P ms es : List ℕ) (fs : List Bool) (W N : List ℕ) (s
   Goes = (q : Program) → Loaded q P ms es → Kinds q fs → Stated q P ms N s m st l → outcome r live′ ≡ reactedTo q l (stateOf P N s m ms st) live
 
   gone-on : Goes → outcome r live′ ≡ reactedTo q l x live
-  gone-on g = subst (λ (X : List ℕ). Stated q P ms X s m st l → outcome r live′ ≡ reactedTo q l (stateOf P X s m ms st) live) c (g q d k) h
+  gone-on g = subst (λ (Z : List ℕ). Stated q P ms Z s m st l → outcome r live′ ≡ reactedTo q l (stateOf P Z s m ms st) live) c (g q d k) h
 
-  module _ (g : Goes) (ss : List State) (K H : List ℕ) (seen : Seen q K H ss) where
-    pub goes-none : (r .number ≡ 0 → ⊥) → (n : ℕ) → length ss ≡ n → Arrives q x l ss K H (record { over = false; count = n; entry = 0 })
-    goes-none z n e = arrives-none q (d .fit) x l ss K H seen (reacted-none q l x live live′ r (gone-on g) z) n e
+  module _ (g : Goes) (ss : List State) (K X : List ℕ) (seen : Seen q K X ss) where
+    pub goes-none : (r .number ≡ 0 → ⊥) → (n : ℕ) → length ss ≡ n → Arrives q x l ss K X (record { over = false; count = n; entry = 0 })
+    goes-none z n e = arrives-none q (d .fit) x l ss K X seen (reacted-none q l x live live′ r (gone-on g) z) n e
 
-    module _ (z : r .number ≡ 0) (K′ H′ : List ℕ) (a : Enrolled) (t : (cs : List (List ℕ)) → Holds K H cs → length cs ≡ length ss → Enrolls cs live′ K′ H′ a) where
+    module _ (z : r .number ≡ 0) (K′ X′ : List ℕ) (a : Enrolled) (t : (cs : List (List ℕ)) → Holds K X cs → length cs ≡ length ss → Enrolls cs live′ K′ X′ a) where
       its : (possible l x ≡ true) × ((r .orders ≡ eight (reaction q l x .does)) × (live′ ≡ code q (reaction q l x .state)))
       its = reacted-on q l x live live′ r (gone-on g) z
 
-      enrolls : Enrolls (map (code q) ss) (code q (reaction q l x .state)) K′ H′ a
+      enrolls : Enrolls (map (code q) ss) (code q (reaction q l x .state)) K′ X′ a
       enrolls =
-          subst (λ (b : List ℕ). Enrolls (map (code q) ss) b K′ H′ a) (its .1 .1)
+          subst (λ (b : List ℕ). Enrolls (map (code q) ss) b K′ X′ a) (its .1 .1)
           (t (map (code q) ss) (seen .held) (length-map ss (code q)))
 
-      pub goes-over : 512 ≤ a .number → (n b : ℕ) → Arrives q x l ss K′ H′ (record { over = true; count = n; entry = b })
-      goes-over = arrives-over q (d .fit) x l ss K H seen (step-in q (d .fit) x l (h .written) (h .among)) (its .0) K′ H′ a enrolls
+      pub goes-over : 512 ≤ a .number → (n b : ℕ) → Arrives q x l ss K′ X′ (record { over = true; count = n; entry = b })
+      goes-over = arrives-over q (d .fit) x l ss K X seen (step-in q (d .fit) x l (h .written) (h .among)) (its .0) K′ X′ a enrolls
 
-      pub goes-on : a .number < 512 → (b : ℕ) → b ≡ ordersFrom (512 + a .number) (r .orders) → Arrives q x l ss K′ H′ (record { over = false; count = a .count; entry = b })
+      pub goes-on : a .number < 512 → (b : ℕ) → b ≡ ordersFrom (512 + a .number) (r .orders) → Arrives q x l ss K′ X′ (record { over = false; count = a .count; entry = b })
       goes-on y b e =
-          arrives-on q (d .fit) x l ss K H seen (step-in q (d .fit) x l (h .written) (h .among)) (its .0) K′ H′ a enrolls y (r .orders) (its .1 .0) b e
+          arrives-on q (d .fit) x l ss K X seen (step-in q (d .fit) x l (h .written) (h .among)) (its .0) K′ X′ a enrolls y (r .orders) (its .1 .0) b e

@@ -14,14 +14,20 @@ use Rattle.rewrite.specs.declared.Memory.{Memory}
 use Rattle.react.specs.States.{stateOf}
 use Rattle.coding.specs.Written.{Written}
 use Rattle.coding.specs.Code.{code}
+use Rattle.layout.proofs.Ranged.{number-listed, number-front}
 use Rattle.engine.specs.Live.{Stated}
 use Rattle.discover.specs.declared.Arrived.{Arrived}
-use Rattle.discover.specs.Finding.{entered, met, Seen, Arrives, Turning, Turns}
+use Rattle.discover.specs.Finding.{entered, met, Numbered, Seen, Arrives, Turning, Turns}
 use Rattle.discover.proofs.Turning.{finds-append}
 
 -- at most 512 are seen
-pub seen-few : (p : Program) (K H : List ℕ) (ss : List State) → Seen p K H ss → length ss ≤ 512
-seen-few p K H ss h = omega (arith, h .held .few, length-map ss (code p))
+pub seen-few : (p : Program) (K X : List ℕ) (ss : List State) → Seen p K X ss → length ss ≤ 512
+seen-few p K X ss h = omega (arith, h .held .few, length-map ss (code p))
+
+-- states behind the others leave a number
+pub numbered-on : (s : State) (ss : List State) (k : ℕ) (more : List State) → Numbered s ss k → Numbered s (ss ++ more) k
+numbered-on s ss k more h =
+    (number-front s ss more (number-listed s ss (omega (arith, h .0, h .1))) ∙ h .0, omega (arith, h .1, length-append ss more))
 
 -- the next letter is one of them
 among-drop : (j : ℕ) (ls : List Letter) (l : Letter) (rest : List Letter) → drop j ls ≡ l ∷ rest → Among l ls
@@ -45,15 +51,15 @@ take-put F i v h =
     ∙ ap (λ (y : ℕ). take i F ++ y ∷ []) (getD-set-same F i v 0 h)))
 
 module _ (p : Program) (s : State) (ss : List State) where
-  pub turning-none : (K H E : List ℕ) (at n : ℕ) → Seen p K H ss → length ss ≡ n → Turning p s ss K H E E at 0 n
+  pub turning-none : (K X E : List ℕ) (at n : ℕ) → Seen p K X ss → length ss ≡ n → Turning p s ss K X E E at 0 n
   unfolding finds
-  turning-none K H E at n h e = record {
-    seen = subst (Seen p K H) (sym (append-nil ss)) h;
+  turning-none K X E at n h e = record {
+    seen = subst (Seen p K X) (sym (append-nil ss)) h;
     count-is = sym (ap length (append-nil ss) ∙ e);
     entries-are = λ more. let z : at + 0 ≡ at = omega arith in ap (λ (k : ℕ). take k E) z ∙ sym (append-nil (take at E));
   }
 
-  module _ (K H E F : List ℕ) (at j n : ℕ) (t : Turning p s ss K H E F at j n) (l : Letter) (rest : List Letter) (d : drop j (letters p) ≡ l ∷ rest) where
+  module _ (K X E F : List ℕ) (at j n : ℕ) (t : Turning p s ss K X E F at j n) (l : Letter) (rest : List Letter) (d : drop j (letters p) ≡ l ∷ rest) where
     abbrev before : List State
     before = met p s (take j (letters p)) ss
 
@@ -62,7 +68,7 @@ module _ (p : Program) (s : State) (ss : List State) where
     met-next =
         ap (λ (ls : List Letter). met p s ls ss) (take-next j (letters p) l rest d) ∙ finds-append p s (take j (letters p)) (l ∷ []) ss
 
-    module _ (K′ H′ : List ℕ) (a : Arrived) (r : Arrives p s l before K′ H′ a) where
+    module _ (K′ X′ : List ℕ) (a : Arrived) (r : Arrives p s l before K′ X′ a) where
       pub turning-over : a .over ≡ true → 512 < length (met p s (letters p) ss)
       turning-over o =
           omega (
@@ -75,9 +81,9 @@ module _ (p : Program) (s : State) (ss : List State) where
                 (finds p s (drop (j + 1) (letters p)) (met p s (take (j + 1) (letters p)) ss)),
           )
 
-      pub turning-next : a .over ≡ false → at + j < length F → Turning p s ss K′ H′ E (set F (at + j) (a .entry)) at (j + 1) (a .count)
+      pub turning-next : a .over ≡ false → at + j < length F → Turning p s ss K′ X′ E (set F (at + j) (a .entry)) at (j + 1) (a .count)
       turning-next o h = record {
-        seen = subst (Seen p K′ H′) (sym met-next) (r .seen o);
+        seen = subst (Seen p K′ X′) (sym met-next) (r .seen o);
         count-is = r .count-is o ∙ ap length (sym met-next);
         entries-are = entries;
       }
@@ -103,10 +109,10 @@ module _ (p : Program) (s : State) (ss : List State) where
               (sym (map-append (entered p (now ++ more) s) (take j (letters p)) (l ∷ []))
               ∙ ap (map (entered p (now ++ more) s)) (sym (take-next j (letters p) l rest d)))))))
 
-  pub turning-all : (K H E F : List ℕ) (at j n : ℕ) → Turning p s ss K H E F at j n → length (letters p) ≤ j → j ≤ length (letters p) → Turns p s ss K H E F at false n
-  turning-all K H E F at j n t h k = record {
+  pub turning-all : (K X E F : List ℕ) (at j n : ℕ) → Turning p s ss K X E F at j n → length (letters p) ≤ j → j ≤ length (letters p) → Turns p s ss K X E F at false n
+  turning-all K X E F at j n t h k = record {
     too-many = λ o. clash (cc);
-    seen = λ o. subst (λ (ls : List Letter). Seen p K H (met p s ls ss)) every (t .seen);
+    seen = λ o. subst (λ (ls : List Letter). Seen p K X (met p s ls ss)) every (t .seen);
     count-is = λ o. t .count-is ∙ ap (λ (ls : List Letter). length (met p s ls ss)) every;
     entries-are = λ o more.
         let z : j ≡ length (letters p) = omega arith in
@@ -118,8 +124,8 @@ module _ (p : Program) (s : State) (ss : List State) where
       every : take j (letters p) ≡ letters p
       every = take-all j (letters p) h
 
-  pub turns-over : (K H E F : List ℕ) (at n : ℕ) → 512 < length (met p s (letters p) ss) → Turns p s ss K H E F at true n
-  turns-over K H E F at n h = record {
+  pub turns-over : (K X E F : List ℕ) (at n : ℕ) → 512 < length (met p s (letters p) ss) → Turns p s ss K X E F at true n
+  turns-over K X E F at n h = record {
     too-many = λ o. h;
     seen = λ o. clash (cc);
     count-is = λ o. clash (cc);

@@ -23,11 +23,12 @@ use Rattle.coding.proofs.Fit.{Fit}
 use Rattle.coding.proofs.Coded.{decode-code}
 use Rattle.parts.specs.Parts.{capped}
 use Rattle.parts.proofs.Capped.{capped-over}
-use Rattle.slots.specs.Slots.{block}
+use Rattle.slots.specs.Slots.{block, numberIn}
 use Rattle.unpack.specs.declared.Unpacked.{Unpacked}
 use Rattle.unpack.specs.Unpacking.{Decodes}
 use Rattle.discover.specs.declared.Turned.{Turned}
-use Rattle.discover.specs.Finding.{Seen, Turns, Visited}
+use Rattle.discover.specs.Finding.{Numbered, Seen, Turns, Visited}
+use Rattle.discover.proofs.Arriving.{number-code}
 
 -- the entries of 512 states have room
 pub rows-room : (k n : ℕ) → k < 512 → n ≤ 16 → k * n + n ≤ 8192
@@ -65,12 +66,20 @@ turn-state zero (s ∷ ss) h = (s, refl)
 turn-state (suc k) [] h = absurd (omega arith)
 turn-state (suc k) (s ∷ ss) h = turn-state k ss (omega arith)
 
-module _ (q : Program) (f : Fit q) (K H : List ℕ) (ss : List State) (seen : Seen q K H ss) (k : ℕ) (x : State) (rest : List State) (e : drop k ss ≡ x ∷ rest) where
+module _ (q : Program) (f : Fit q) (K X : List ℕ) (ss : List State) (seen : Seen q K X ss) (k : ℕ) (x : State) (rest : List State) (e : drop k ss ≡ x ∷ rest) where
   pub its-block : block K k ≡ code q x
   its-block = seen .held .blocks k (omega (arith, drop-short k ss x rest e, length-map ss (code q))) ∙ code-drop (code q) k ss x rest e
 
   pub its-written : Written q x
   its-written = seen .written x (has-drop k ss x rest e)
+
+  its-number : Numbered x ss k
+  its-number =
+      let h = drop-short k ss x rest e in (
+        sym (number-code q f x ss its-written (seen .written))
+            ∙ (ap (λ (b : List ℕ). numberIn b (map (code q) ss)) (sym (code-drop (code q) k ss x rest e)) ∙ seen .held .once k (omega (arith, length-map ss (code q)))),
+        h,
+      )
 
   module _ (P ms W b : List ℕ) (u : Unpacked) (d : Decodes q P W ms b u) (c : b ≡ block K k) where
     decodes : decode q b ≡ some x
@@ -98,13 +107,16 @@ module _ (q : Program) (f : Fit q) (K H : List ℕ) (ss : List State) (seen : Se
     pub state-written : Written q (stateOf P W (u .start) (u .memory) ms (u .stopped))
     state-written = subst (Written q) (sym its-state) its-written
 
+    pub state-number : Numbered (stateOf P W (u .start) (u .memory) ms (u .stopped)) ss k
+    state-number = subst (λ (s : State). Numbered s ss k) (sym its-state) its-number
+
     parts-over : (n : ℕ) → n ≡ capped (partsOf (state P W (u .start))) → ltb 8192 n ≡ ltb mostParts (partsOf (x .left))
     parts-over n h =
         ap (ltb 8192) h
         ∙ (capped-over (partsOf (state P W (u .start))) ∙ ap (λ (s : State). ltb 8192 (partsOf (s .left))) its-state)
 
-    its-turns : (K′ H′ E F : List ℕ) (at : ℕ) (over : Bool) (n : ℕ) → Turns q (stateOf P W (u .start) (u .memory) ms (u .stopped)) ss K′ H′ E F at over n → Turns q x ss K′ H′ E F at over n
-    its-turns K′ H′ E F at over n t = subst (λ (s : State). Turns q s ss K′ H′ E F at over n) its-state t
+    its-turns : (K′ X′ E F : List ℕ) (at : ℕ) (over : Bool) (n : ℕ) → Turns q (stateOf P W (u .start) (u .memory) ms (u .stopped)) ss K′ X′ E F at over n → Turns q x ss K′ X′ E F at over n
+    its-turns K′ X′ E F at over n t = subst (λ (s : State). Turns q s ss K′ X′ E F at over n) its-state t
 
-    pub visited : (n : ℕ) → n ≡ capped (partsOf (state P W (u .start))) → (K′ H′ E F : List ℕ) (at : ℕ) (t : Turned) → Turns q (stateOf P W (u .start) (u .memory) ms (u .stopped)) ss K′ H′ E F at (t .over) (t .count) → Visited q x ss K′ H′ E F at (record { over = t .over; large = ltb 8192 n; count = t .count })
-    visited n h K′ H′ E F at t r = record { turns = its-turns K′ H′ E F at (t .over) (t .count) r; large-is = λ o. parts-over n h }
+    pub visited : (n : ℕ) → n ≡ capped (partsOf (state P W (u .start))) → (K′ X′ E F : List ℕ) (at : ℕ) (t : Turned) → Turns q (stateOf P W (u .start) (u .memory) ms (u .stopped)) ss K′ X′ E F at (t .over) (t .count) → Visited q x ss K′ X′ E F at (record { over = t .over; large = ltb 8192 n; count = t .count })
+    visited n h K′ X′ E F at t r = record { turns = its-turns K′ X′ E F at (t .over) (t .count) r; large-is = λ o. parts-over n h }

@@ -1,17 +1,23 @@
 // Discovery: each state in turn, letter by letter. The states found lie in the working slice in the live coding (`slots`), so that the table and the live
 // engine share one reaction and one notion of equality. What each letter leads to is kept as a number, an entry of the table to be.
 ghost use mathlib.Core.Path.{_≡_};
+ghost use mathlib.Core.Bool.{true};
 ghost use mathlib.Core.List.{List, [], _∷_};
-ghost use Prim.Native.Nat.{_+_, _*_, _≤_, _<_};
+ghost use Prim.Native.Nat.{ℕ, _+_, _*_, _≤_, _<_};
 ghost use lib.ListN.{length, drop};
+ghost use Rattle.paper.specs.Lists.{has};
+ghost use Rattle.paper.specs.Rewriting.{occurrence};
 ghost use Rattle.paper.specs.Reaction.{Program, State, startOf};
 ghost use Rattle.paper.specs.Discovery.{letters};
-ghost use Rattle.rewrite.specs.Steps.{letterOf};
+ghost use Rattle.laws.proofs.Reached.{Idle};
+ghost use Rattle.words.specs.Pieces.{Table};
+ghost use Rattle.rewrite.specs.Steps.{letterOf, Stands};
+ghost use Rattle.rewrite.specs.Stored.{stored};
 ghost use Rattle.react.specs.States.{stateOf};
 ghost use Rattle.emit.specs.Entries.{ordersFrom};
 ghost use Rattle.coding.specs.Written.{Written};
 ghost use Rattle.engine.specs.Live.{Letters, Loaded, Rooted, Kinds, Stated, Runs};
-ghost use Rattle.discover.specs.Finding.{Room, Seen, Arrives, Standing, Turns, Stocked, Visits, Visited, Explores, Explored, Begins, Discovers};
+ghost use Rattle.discover.specs.Finding.{Numbered, Idles, Room, Seen, Arrives, Standing, Turns, Stocked, Visits, Visited, Explores, Explored, Begins, Discovers};
 use engine::begin;
 use engine::go;
 use parts::count_parts;
@@ -21,6 +27,7 @@ use rewrite::Memory;
 use rewrite::copy;
 use slots::enroll;
 use unpack::unpack;
+use words::event_armed;
 
 // Where one letter led: whether to one state too many, how many there are then, and the entry.
 pub struct Arrived {
@@ -100,15 +107,15 @@ fn arrive(
     next: &mut [usize],
     tmp: &mut [usize],
     work: &mut [u8],
-    hashes: &mut [usize],
+    index: &mut [usize],
     count: usize,
 ) -> Arrived
     requires { ⌜ Runs (now nodes) (now modules) (now events) (now fugitive) (now w) s memory stopped (letterOf letter) ⌝ }
-    requires { ⌜ Room (now w) (now next) (now tmp) (now work) (now hashes) count ⌝ }
+    requires { ⌜ Room (now w) (now next) (now tmp) (now work) (now index) count ⌝ }
     ensures { λ r. ⌜ ((q : Program) → Loaded q (now (nodes .entry)) (now (modules .entry)) (now (events .entry)) → Kinds q (now (fugitive .entry))
         → Stated q (now (nodes .entry)) (now (modules .entry)) (now (w .entry)) s memory stopped (letterOf letter)
-        → (S : List State) → Seen q (now (work .entry)) (now (hashes .entry)) S → length S ≡ count
-        → Arrives q (stateOf (now (nodes .entry)) (now (w .entry)) s memory (now (modules .entry)) stopped) (letterOf letter) S (now (work .exit)) (now (hashes .exit)) r) ⌝ }
+        → (S : List State) → Seen q (now (work .entry)) (now (index .entry)) S → length S ≡ count
+        → Arrives q (stateOf (now (nodes .entry)) (now (w .entry)) s memory (now (modules .entry)) stopped) (letterOf letter) S (now (work .exit)) (now (index .exit)) r) ⌝ }
 {
     let mut bytes = [0u8; 128];
     copy(w, next, 0);
@@ -133,7 +140,7 @@ fn arrive(
         };
     }
     let orders = a.orders;
-    let e = enroll(work, hashes, count, &bytes);
+    let e = enroll(work, index, count, &bytes);
     let number = e.number;
     if 512 <= number {
         return Arrived {
@@ -149,7 +156,118 @@ fn arrive(
     }
 }
 
-// The turn of the state whose word stands in w: letter by letter, its entries from `at` on.
+// Whether an event is stored.
+fn is_stored(memory: Memory, e: usize) -> bool
+    requires { ⌜ memory .count ≤ 8 ⌝ }
+    ensures { λ r. ⌜ r ≡ has e (stored memory) ⌝ }
+{
+    let n = memory.count;
+    let mut k = 0;
+    while k < n {
+        if e == memory.events[k] {
+            return true;
+        }
+        k += 1;
+    }
+    false
+}
+
+// Whether it is seen at once that the event changes nothing: at the end, a fugitive one that is not armed, a stored one.
+fn passes(
+    nodes: &[u8],
+    fugitive: &[bool; 26],
+    w: &[usize],
+    s: usize,
+    memory: Memory,
+    e: usize,
+) -> bool
+    requires { ⌜ Table (now nodes) × (Stands (now nodes) (now w) s × ((memory .count ≤ 8) × (e < 26))) ⌝ }
+    ensures { λ r. ⌜ ((q : Program) → Kinds q (now (fugitive .entry)) → (ms st : List ℕ) → r ≡ true → Idle q (stateOf (now (nodes .entry)) (now (w .entry)) s memory ms st) e) ⌝ }
+{
+    if s == 96 {
+        return true;
+    }
+    if fugitive[e] {
+        if event_armed(nodes, w, s, e) {
+            return false;
+        }
+        return true;
+    }
+    is_stored(memory, e)
+}
+
+// The same of a letter: a completion never passes.
+fn idle(
+    nodes: &[u8],
+    fugitive: &[bool; 26],
+    w: &[usize],
+    s: usize,
+    memory: Memory,
+    letter: Letter,
+) -> bool
+    requires { ⌜ Table (now nodes) × (Stands (now nodes) (now w) s × ((memory .count ≤ 8) × ((e : ℕ) → letterOf letter ≡ occurrence e → e < 26))) ⌝ }
+    ensures { λ r. ⌜ ((q : Program) → Kinds q (now (fugitive .entry)) → (ms st : List ℕ) → r ≡ true → Idles q (stateOf (now (nodes .entry)) (now (w .entry)) s memory ms st) (letterOf letter)) ⌝ }
+{
+    match letter {
+        Letter::Completion(_) => false,
+        Letter::Occurrence(e) => passes(nodes, fugitive, w, s, memory, e),
+    }
+}
+
+// One letter in the k-th of the states found, whose word stands in w. Most occurrences change nothing: they lead to the state itself, with no orders,
+// and nothing is copied, coded or looked up for them.
+fn meet(
+    nodes: &[u8],
+    modules: &[u8],
+    events: &[u8],
+    fugitive: &[bool; 26],
+    w: &[usize],
+    s: usize,
+    memory: Memory,
+    stopped: [u8; 8],
+    letter: Letter,
+    next: &mut [usize],
+    tmp: &mut [usize],
+    work: &mut [u8],
+    index: &mut [usize],
+    count: usize,
+    k: usize,
+) -> Arrived
+    requires { ⌜ Runs (now nodes) (now modules) (now events) (now fugitive) (now w) s memory stopped (letterOf letter) ⌝ }
+    requires { ⌜ Room (now w) (now next) (now tmp) (now work) (now index) count ⌝ }
+    requires { ⌜ k ≤ 512 ⌝ }
+    ensures { λ r. ⌜ ((q : Program) → Loaded q (now (nodes .entry)) (now (modules .entry)) (now (events .entry)) → Kinds q (now (fugitive .entry))
+        → Stated q (now (nodes .entry)) (now (modules .entry)) (now (w .entry)) s memory stopped (letterOf letter)
+        → (S : List State) → Seen q (now (work .entry)) (now (index .entry)) S → length S ≡ count
+        → Numbered (stateOf (now (nodes .entry)) (now (w .entry)) s memory (now (modules .entry)) stopped) S k
+        → Arrives q (stateOf (now (nodes .entry)) (now (w .entry)) s memory (now (modules .entry)) stopped) (letterOf letter) S (now (work .exit)) (now (index .exit)) r) ⌝ }
+{
+    if idle(nodes, fugitive, w, s, memory, letter) {
+        return Arrived {
+            over: false,
+            count: count,
+            entry: entry_of(k, [0; 8]),
+        };
+    }
+    arrive(
+        nodes,
+        modules,
+        events,
+        fugitive,
+        w,
+        s,
+        memory,
+        stopped,
+        letter,
+        next,
+        tmp,
+        work,
+        index,
+        count,
+    )
+}
+
+// The turn of the k-th of the states found, whose word stands in w: letter by letter, its entries from `at` on.
 fn turn(
     nodes: &[u8],
     modules: &[u8],
@@ -162,25 +280,27 @@ fn turn(
     next: &mut [usize],
     tmp: &mut [usize],
     work: &mut [u8],
-    hashes: &mut [usize],
+    index: &mut [usize],
     count: usize,
     entries: &mut [u32],
     at: usize,
+    k: usize,
 ) -> Turned
-    requires { ⌜ Standing (now nodes) (now modules) (now events) (now fugitive) (now w) s memory stopped (now work) (now hashes) count ⌝ }
-    requires { ⌜ Room (now w) (now next) (now tmp) (now work) (now hashes) count ⌝ }
+    requires { ⌜ Standing (now nodes) (now modules) (now events) (now fugitive) (now w) s memory stopped (now work) (now index) count k ⌝ }
+    requires { ⌜ Room (now w) (now next) (now tmp) (now work) (now index) count ⌝ }
     requires { ⌜ (at + (length (now modules) + length (now events)) ≤ 8192) × (8192 ≤ length (now entries)) ⌝ }
     ensures { λ r. ⌜ ((q : Program) → Loaded q (now (nodes .entry)) (now (modules .entry)) (now (events .entry)) → Kinds q (now (fugitive .entry))
         → Written q (stateOf (now (nodes .entry)) (now (w .entry)) s memory (now (modules .entry)) stopped)
-        → (S : List State) → Seen q (now (work .entry)) (now (hashes .entry)) S → length S ≡ count
-        → Turns q (stateOf (now (nodes .entry)) (now (w .entry)) s memory (now (modules .entry)) stopped) S (now (work .exit)) (now (hashes .exit)) (now (entries .entry)) (now (entries .exit)) at (r .over) (r .count)) ⌝ }
+        → (S : List State) → Seen q (now (work .entry)) (now (index .entry)) S → length S ≡ count
+        → Numbered (stateOf (now (nodes .entry)) (now (w .entry)) s memory (now (modules .entry)) stopped) S k
+        → Turns q (stateOf (now (nodes .entry)) (now (w .entry)) s memory (now (modules .entry)) stopped) S (now (work .exit)) (now (index .exit)) (now (entries .entry)) (now (entries .exit)) at (r .over) (r .count)) ⌝ }
 {
     let n = modules.len() + events.len();
     let mut seen = count;
     let mut j = 0;
     while j < n {
         let letter = letter_at(modules, events, j);
-        let a = arrive(
+        let a = meet(
             nodes,
             modules,
             events,
@@ -193,8 +313,9 @@ fn turn(
             next,
             tmp,
             work,
-            hashes,
+            index,
             seen,
+            k,
         );
         if a.over {
             return Turned {
@@ -226,17 +347,17 @@ fn visit(
     next: &mut [usize],
     tmp: &mut [usize],
     work: &mut [u8],
-    hashes: &mut [usize],
+    index: &mut [usize],
     count: usize,
     entries: &mut [u32],
     k: usize,
 ) -> Turned
-    requires { ⌜ Visits (now nodes) (now weights) (now modules) (now events) (now fugitive) (now sizes) (now work) (now hashes) count k ⌝ }
-    requires { ⌜ Room (now w) (now next) (now tmp) (now work) (now hashes) count ⌝ }
+    requires { ⌜ Visits (now nodes) (now weights) (now modules) (now events) (now fugitive) (now sizes) (now work) (now index) count k ⌝ }
+    requires { ⌜ Room (now w) (now next) (now tmp) (now work) (now index) count ⌝ }
     requires { ⌜ 8192 ≤ length (now entries) ⌝ }
     ensures { λ r. ⌜ ((q : Program) → Loaded q (now (nodes .entry)) (now (modules .entry)) (now (events .entry)) → Kinds q (now (fugitive .entry))
-        → (S : List State) → Seen q (now (work .entry)) (now (hashes .entry)) S → length S ≡ count → (x : State) → (rest : List State) → drop k S ≡ x ∷ rest
-        → Visited q x S (now (work .exit)) (now (hashes .exit)) (now (entries .entry)) (now (entries .exit)) (k * (length (now (modules .entry)) + length (now (events .entry)))) r) ⌝ }
+        → (S : List State) → Seen q (now (work .entry)) (now (index .entry)) S → length S ≡ count → (x : State) → (rest : List State) → drop k S ≡ x ∷ rest
+        → Visited q x S (now (work .exit)) (now (index .exit)) (now (entries .entry)) (now (entries .exit)) (k * (length (now (modules .entry)) + length (now (events .entry)))) r) ⌝ }
 {
     let from = 128 * k;
     let u = unpack(
@@ -266,10 +387,11 @@ fn visit(
         next,
         tmp,
         work,
-        hashes,
+        index,
         count,
         entries,
         k * n,
+        k,
     );
     Turned {
         over: t.over,
@@ -290,14 +412,14 @@ fn explore(
     next: &mut [usize],
     tmp: &mut [usize],
     work: &mut [u8],
-    hashes: &mut [usize],
+    index: &mut [usize],
     entries: &mut [u32],
 ) -> Turned
-    requires { ⌜ Explores (now nodes) (now weights) (now modules) (now events) (now fugitive) (now sizes) (now work) (now hashes) ⌝ }
-    requires { ⌜ Room (now w) (now next) (now tmp) (now work) (now hashes) 1 ⌝ }
+    requires { ⌜ Explores (now nodes) (now weights) (now modules) (now events) (now fugitive) (now sizes) (now work) (now index) ⌝ }
+    requires { ⌜ Room (now w) (now next) (now tmp) (now work) (now index) 1 ⌝ }
     requires { ⌜ 8192 ≤ length (now entries) ⌝ }
     ensures { λ r. ⌜ ((q : Program) → Loaded q (now (nodes .entry)) (now (modules .entry)) (now (events .entry)) → Kinds q (now (fugitive .entry))
-        → Seen q (now (work .entry)) (now (hashes .entry)) (startOf q ∷ []) → Explored q (now (entries .exit)) r) ⌝ }
+        → Seen q (now (work .entry)) (now (index .entry)) (startOf q ∷ []) → Explored q (now (entries .exit)) r) ⌝ }
 {
     let mut count = 1;
     let mut large = false;
@@ -314,7 +436,7 @@ fn explore(
             next,
             tmp,
             work,
-            hashes,
+            index,
             count,
             entries,
             k,
@@ -354,7 +476,7 @@ pub fn discover(
         → Discovers q (now (modules .entry)) (now (entries .exit)) r) ⌝ }
 {
     let mut bytes = [0u8; 128];
-    let mut hashes = [0usize; 512];
+    let mut index = [0usize; 1536];
     let mut sizes = [0usize; 192];
     let mut w = [0usize; 96];
     let mut next = [0usize; 96];
@@ -362,7 +484,7 @@ pub fn discover(
     count_parts(nodes, &mut sizes);
     let a = begin(nodes, root, modules, events, &mut bytes);
     let running = a.orders;
-    enroll(work, &mut hashes, 0, &bytes);
+    enroll(work, &mut index, 0, &bytes);
     let t = explore(
         nodes,
         weights,
@@ -374,7 +496,7 @@ pub fn discover(
         &mut next,
         &mut tmp,
         work,
-        &mut hashes,
+        &mut index,
         entries,
     );
     Found {

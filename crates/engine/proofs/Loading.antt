@@ -21,7 +21,7 @@ use Rattle.laws.specs.Nodes.{count, kind, letter}
 use Rattle.laws.specs.Placed.{placedS}
 use Rattle.laws.proofs.Ordered.{Clear, checks}
 use Rattle.laws.proofs.Tokens.{few-tokens}
-use Rattle.limits.specs.Letters.{namesOf}
+use Rattle.letters.specs.Letters.{namesOf}
 use Rattle.nodes.specs.Made.{Made, made}
 use Rattle.nodes.specs.ByTerm.{madeOf}
 use Rattle.nodes.specs.Weights.{nodeWeight}

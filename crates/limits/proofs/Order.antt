@@ -4,7 +4,7 @@ use mathlib.Core.Path.{_≡_, ap, _∙_}
 use mathlib.Core.Option.{Option}
 use Rattle.paper.specs.File.{Answer, unless}
 use Rattle.paper.specs.Reaction.{Program}
-use Rattle.limits.specs.declared.checks.Checked.{Checked}
+use Rattle.limits.specs.declared.Checked.{Checked}
 use Rattle.limits.specs.Checks.{checked}
 
 pub then-is : (r s : Checked) (n : ℕ) {o : Option ℕ} (p : Option ℕ) (a : Answer Program)

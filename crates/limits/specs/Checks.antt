@@ -13,10 +13,10 @@ use Rattle.paper.specs.Bytes.{isModule, isEvent}
 use Rattle.paper.specs.Limits.{unlisted, unused, ninth}
 use Rattle.paper.specs.Reaction.{Program}
 use Rattle.paper.specs.Refusals.{ascending, fugitiveText}
-use Rattle.limits.specs.declared.checks.Checked.{Checked}
-use Rattle.limits.specs.declared.checks.Checked.the-variants.{Refused, Fine}
-use Rattle.limits.specs.declared.checks.Lists.{Lists}
-use Rattle.limits.specs.Letters.{Tells}
+use Rattle.limits.specs.declared.Checked.{Checked}
+use Rattle.limits.specs.declared.Checked.the-variants.{Refused, Fine}
+use Rattle.limits.specs.declared.Lists.{Lists}
+use Rattle.letters.specs.Letters.{Tells}
 
 abbrev pub checked : Checked → Answer Program → Answer Program
 checked (Refused number place) a = refused number place

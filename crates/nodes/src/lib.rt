@@ -109,7 +109,7 @@ pub fn clear(nodes: &mut [u8])
 }
 
 // The table of the nodes of the program whose postorder is the first n of `code` and `left`; the answer is its root.
-// Ruled out (must-fail/): equal nodes added twice, exchanged parts, letters from another base, a node 0 that is not `1`.
+// Ruled out (must-fail/): equal nodes added twice.
 pub fn make_nodes(code: &[u8], left: &[u8], n: usize, nodes: &mut [u8]) -> usize
     requires { ⌜ Given (now code) (now left) n (length (now nodes)) ⌝ }
     ensures { λ r. ⌜ Numbered (now (code .entry)) (now (left .entry)) n (now (nodes .exit)) r ⌝ }
@@ -155,7 +155,7 @@ fn row_weight(k: u8, l: u8, r: u8) -> u8
 }
 
 // The weight of each node, in w; what lies behind them stays.
-// Ruled out (must-fail/): the weights of two parts exchanged, a treatment that weighs as its event.
+// Ruled out (must-fail/): a treatment that weighs as its event.
 pub fn weigh(nodes: &[u8], w: &mut [u8])
     requires { ⌜ Weighable (now nodes) (length (now w)) ⌝ }
     ensures { λ r. ⌜ Weighed (now (nodes .entry)) (now (w .entry)) (now (w .exit)) ⌝ }

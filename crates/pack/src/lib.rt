@@ -127,7 +127,7 @@ fn put_marks(events: &[u8], memory: Memory, b: &mut [u8])
 }
 
 // The 128 bytes of a state: a zeroed array, filled with its code. The table says what the word's units mean, and is not read.
-// Ruled out (must-fail/): a word without its length, high bits of the next unit, marks that are not shifted, bits of modules at other places.
+// Ruled out (must-fail/): high bits of the next unit, marks that are not shifted.
 pub fn pack(
     p: &[u8],
     modules: &[u8],
@@ -149,8 +149,7 @@ pub fn pack(
     b
 }
 
-// Writes the word of the program's term, its node `root`, and answers where it starts. Ruled out (must-fail/): a word that
-// ends before the last place, an answer where nothing stands.
+// Writes the word of the program's term, its node `root`, and answers where it starts.
 pub fn start_word(p: &[u8], root: usize, w: &mut [usize]) -> usize
     requires { ⌜ Asks (now p) root 96 (length (now w)) × (length (now w) ≡ 96) ⌝ }
     ensures { λ r. ⌜ Stands (now (p .entry)) (now (w .exit)) r × (state (now (p .entry)) (now (w .exit)) r ≡ still (tree (now (p .entry)) root)) ⌝ }
@@ -159,7 +158,7 @@ pub fn start_word(p: &[u8], root: usize, w: &mut [usize]) -> usize
     start
 }
 
-// Copies the bytes of a state out. Ruled out (must-fail/): the first or the last of them not copied.
+// Copies the bytes of a state out.
 pub fn copy_out(from: [u8; 128], live: &mut [u8])
     requires { ⌜ length (now live) ≡ 128 ⌝ }
     ensures { λ _. ⌜ now (live .exit) ≡ from ⌝ }

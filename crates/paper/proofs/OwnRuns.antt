@@ -169,6 +169,18 @@ refusalRuns =
     ∷ refuse adaptive "program b[[[a*]*]*]*.\n" 9 19
     ∷ refuse adaptive "fugitive EF\nprogram a/{E|F:[[[b*]*]*]*}.\n" 9 37
     ∷ refuse adaptive "fugitive EF\nprogram a/{E||F:[[[b*]*]*]*}.\n" 9 38
+    -- right of a `||`, and inside the first, a middle and the last interruption of braces
+    ∷ refuse adaptive "program [b||[[[a*]*]*]*].\n" 9 22
+    ∷ refuse adaptive "fugitive EF\nprogram 1/{E:[[[b*]*]*]*|F}.\n" 9 35
+    ∷ refuse adaptive "fugitive EFG\nprogram 1/{E|F:[[[b*]*]*]*|G}.\n" 9 38
+    ∷ refuse adaptive "fugitive EFG\nprogram 1/{E|F|G:[[[b*]*]*]*}.\n" 9 40
+    ∷ refuse adaptive "fugitive EF\nprogram [1/{E:[[b*]*]*|F}]*.\n" 9 38
+    ∷ refuse adaptive "fugitive EF\nprogram [1/{E|F:[[b*]*]*}]*.\n" 9 38
+    ∷ refuse adaptive "fugitive EFG\nprogram [1/{E|F:[[b*]*]*|G}]*.\n" 9 41
+    ∷ refuse adaptive "fugitive EF\nprogram 1/{E:[b||b]|F}.\n" 13 27
+    ∷ refuse adaptive "fugitive EF\nprogram 1/{E|F:[b||b]}.\n" 13 29
+    ∷ refuse adaptive "fugitive EFG\nprogram 1/{E|F:[b||b]|G}.\n" 13 30
+    ∷ refuse adaptive "fugitive EFG\nprogram 1/{E|F|G:[b||b]}.\n" 13 32
     ∷ count "program [[a*b*]*]*.\n" 1
     ∷ count "program [[a*||b*]*]*.\n" 1
     ∷ count "standard E\nprogram [[a*/E:b*]*]*.\n" 3

@@ -32,7 +32,7 @@ fn row_parts(k: u8, l: usize, r: usize) -> usize
 }
 
 // The parts of each node, in `sizes`. A node's own parts stand below it, so theirs are there already.
-// Ruled out (must-fail/): a join that is not counted, a treatment counted as its event, node 0 passed over.
+// Ruled out (must-fail/): a treatment counted as its event.
 pub fn count_parts(nodes: &[u8], sizes: &mut [usize])
     requires { ⌜ Table (now nodes) × (192 ≤ length (now sizes)) ⌝ }
     ensures { λ _. ⌜ Counted (now (nodes .entry)) (now (sizes .exit)) ⌝ }
@@ -66,7 +66,7 @@ fn unit_parts(p: &[u8], sizes: &[usize], u: usize) -> usize
 }
 
 // The parts of what the word from place s on says: one pass over its units. The table p says what they mean, and is not read.
-// Ruled out (must-fail/): a sequence that is not counted, `1/i` counted without its `1`, a cap that 8,193 parts do not pass.
+// Ruled out (must-fail/): `1/i` counted without its `1`, a cap that 8,193 parts do not pass.
 pub fn parts_of(p: &[u8], sizes: &[usize], w: &[usize], s: usize) -> usize
     requires { ⌜ Counted (now p) (now sizes) × Stands (now p) (now w) s ⌝ }
     ensures { λ r. ⌜ r ≡ capped (partsOf (state (now (p .entry)) (now (w .entry)) s)) ⌝ }

@@ -113,8 +113,8 @@ fn put_refused(line: &mut [u8], number: usize, place: usize) -> usize
 }
 
 // Writes the text for what a compile answered at the front of `line`, and answers how long it is: at most 60 bytes and two for each byte of the table.
-// Nothing where the line is shorter than that, or the table than its size. Ruled out (must-fail/): capital hex digits, the last digit put over the
-// first, states and size exchanged.
+// Nothing where the line is shorter than that, or the table than its size. Ruled out (must-fail/): capital hex digits, states and
+// size exchanged.
 pub fn text(
     number: usize,
     place: usize,

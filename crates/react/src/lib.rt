@@ -27,7 +27,6 @@ pub struct Ordered {
 }
 
 // Which modules run in the word that starts at s, a flag for each of a to z: one pass over its units.
-// Ruled out (must-fail/): module a is never seen, a module that runs has its flag cleared.
 pub fn running_letters(p: &[u8], w: &[usize], s: usize) -> [bool; 26]
     requires { ⌜ Stands (now p) (now w) s ⌝ }
     ensures { λ r. ⌜ Running r (state (now (p .entry)) (now (w .entry)) s) ⌝ }
@@ -56,8 +55,7 @@ fn wide(x: u8) -> usize
     x as usize
 }
 
-// 1 for each of the modules that runs, in their order; zeros behind. Ruled out (must-fail/): the first letters stand for the modules, 1 for a
-// module that does not run.
+// 1 for each of the modules that runs, in their order; zeros behind.
 pub fn runs_flags(p: &[u8], modules: &[u8], w: &[usize], s: usize) -> [u8; 8]
     requires { ⌜ Stands (now p) (now w) s × Modules (now modules) ⌝ }
     ensures { λ r. ⌜ r ≡ flagsOf (λ (m : ℕ). runsL m (state (now (p .entry)) (now (w .entry)) s)) (now (modules .entry)) ⌝ }
@@ -74,7 +72,6 @@ pub fn runs_flags(p: &[u8], modules: &[u8], w: &[usize], s: usize) -> [u8; 8]
 }
 
 // Whether a letter can be reacted to: a completion only of a module that runs, events always.
-// Ruled out (must-fail/): no event is possible, none at the end, another module is asked for.
 pub fn possible(p: &[u8], w: &[usize], s: usize, letter: Letter) -> bool
     requires { ⌜ Stands (now p) (now w) s × ((m : ℕ) → letterOf letter ≡ completion m → m < 256) ⌝ }
     ensures { λ r. ⌜ ((x : State) → x .left ≡ state (now (p .entry)) (now (w .entry)) s → r ≡ possibleIn (letterOf letter) x) ⌝ }
@@ -126,8 +123,7 @@ fn give_orders(
 }
 
 // One reaction: the state after a letter, and the orders. At the end the stopped set is emptied, after the orders are worked out.
-// Ruled out (must-fail/): orders that compare after with before, a stopped set that is not emptied at the end or that a resumed module does not
-// leave, a completed module that is resumed, a state that is left as it is, a standard event that is lost.
+// Ruled out (must-fail/): a stopped set that is not emptied at the end, a completed module that is resumed, a state that is left as it is.
 pub fn react(
     p: &[u8],
     modules: &[u8],

@@ -18,8 +18,8 @@ use Rattle.paper.specs.Limits.{tokens, over96, ninth}
 use Rattle.paper.specs.Term.{termS}
 use Rattle.paper.specs.Refusals.{ascending, fugitiveText, programOf}
 use Rattle.paper.specs.Lists.{has, from, below}
-use Rattle.limits.specs.Letters.{Tells, TellsFrom, namesOf}
-use Rattle.limits.specs.declared.names.Names.{Names}
+use Rattle.letters.specs.Letters.{Tells, TellsFrom, namesOf}
+use Rattle.letters.specs.declared.Names.{Names}
 use Rattle.laws.proofs.Parsing.{parse-program}
 use Rattle.laws.proofs.Tokens.{few-tokens}
 use Rattle.laws.specs.Nodes.{count}

@@ -6,7 +6,7 @@ use mathlib.Core.List.{List}
 use native.Mathlib.Omega.{arith}
 use lib.ListN.{length, getD, set, length-set}
 use lib.Seq.{getD-set-same, getD-set-other}
-use Rattle.limits.proofs.Flags.{or-false}
+use Rattle.letters.proofs.Flags.{or-false}
 use Rattle.reader.proofs.Slices.{at-or-below}
 
 or-true : (a : Bool) → (a || true) ≡ true

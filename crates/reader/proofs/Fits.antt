@@ -22,10 +22,10 @@ use Rattle.laws.specs.Placed.{placedS, size, codes, lefts, places}
 use Rattle.laws.proofs.Ordered.{Clear, checks, programmed-first, first-accepts}
 use Rattle.laws.proofs.Parsing.{parse-program}
 use Rattle.laws.proofs.Tokens.{few-tokens}
-use Rattle.limits.specs.Nodes.{Written}
-use Rattle.limits.specs.Found.{found}
-use Rattle.limits.specs.declared.Found.{Found}
-use Rattle.limits.specs.declared.Found.the-variants.{At, Nothing}
+use Rattle.stars.specs.Nodes.{Written}
+use Rattle.letters.specs.Found.{found}
+use Rattle.letters.specs.declared.Found.{Found}
+use Rattle.letters.specs.declared.Found.the-variants.{At, Nothing}
 use Rattle.nodes.proofs.Laws.{size-below}
 use Rattle.syntax.proofs.Stores.{length-codes, length-lefts, length-places}
 use Rattle.text.specs.declared.Lines.{Lines}

@@ -16,11 +16,11 @@ use Rattle.paper.specs.Grammar.{eventByte}
 use Rattle.paper.specs.File.{Value, Listed, listedFrom, lettersOf}
 use Rattle.paper.specs.Refusals.{ascending, fugitiveText}
 use Rattle.laws.proofs.Letters.{has-keep}
-use Rattle.limits.specs.Letters.{Tells, TellsFrom, Events}
+use Rattle.letters.specs.Letters.{Tells, TellsFrom, Events}
 use Rattle.limits.specs.Checks.{ListsAre}
-use Rattle.limits.specs.declared.checks.Lists.{Lists}
-use Rattle.limits.proofs.Flags.{letter-low}
-use Rattle.limits.proofs.Uses.{has-append}
+use Rattle.limits.specs.declared.Lists.{Lists}
+use Rattle.letters.proofs.Flags.{letter-low}
+use Rattle.joins.proofs.Uses.{has-append}
 use Rattle.text.specs.declared.Span.{Span}
 use Rattle.text.specs.declared.Lines.{Lines}
 use Rattle.text.specs.Spans.{part, valueAt, valueIn, listedIn, inOrder, readOf, Lies}

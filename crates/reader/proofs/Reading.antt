@@ -10,8 +10,8 @@ use Rattle.paper.specs.Parse.{Parsed, program, stops, parse}
 use Rattle.paper.specs.File.{Answer, refused, accepted}
 use Rattle.paper.specs.Reaction as paper
 use Rattle.paper.specs.Refusals.{Edition, programOf, programmed, reading}
-use Rattle.limits.specs.declared.checks.Checked.{Checked}
-use Rattle.limits.specs.declared.checks.Checked.the-variants.{Refused as Stopped, Fine}
+use Rattle.limits.specs.declared.Checked.{Checked}
+use Rattle.limits.specs.declared.Checked.the-variants.{Refused as Stopped, Fine}
 use Rattle.limits.specs.Checks.{checked}
 use Rattle.text.specs.declared.Lines.{Lines}
 use Rattle.text.specs.Spans.{valueAt, readOf}

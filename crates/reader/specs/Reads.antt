@@ -17,7 +17,7 @@ use Rattle.paper.specs.File.{Answer, refused, accepted}
 use Rattle.paper.specs.Reaction as paper
 use Rattle.paper.specs.Refusals.{Edition, basic, adaptive}
 use Rattle.laws.specs.Nodes.{count}
-use Rattle.limits.specs.Letters.{namesOf}
+use Rattle.letters.specs.Letters.{namesOf}
 use Rattle.nodes.specs.ByTerm.{madeOf}
 use Rattle.nodes.specs.Weights.{nodeWeight}
 use Rattle.reader.specs.declared.Program.{Program}

@@ -21,8 +21,8 @@ use Rattle.laws.specs.Placed.{placedS, size, codes, lefts, places}
 use Rattle.text.specs.declared.Lines.{Lines}
 use Rattle.text.specs.declared.Reading.the-variants.{Read}
 use Rattle.text.specs.Spans.{part, readOf, Answers}
-use Rattle.limits.specs.declared.checks.Lists.{Lists}
-use Rattle.limits.specs.Letters.{Events}
+use Rattle.limits.specs.declared.Lists.{Lists}
+use Rattle.letters.specs.Letters.{Events}
 use Rattle.limits.specs.Checks.{ListsAre}
 
 abbrev pub Taken : List ℕ → Lines → Type 0

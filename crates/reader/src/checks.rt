@@ -9,21 +9,21 @@ ghost use Rattle.paper.specs.File.{Answer, Read};
 ghost use Rattle.paper.specs.Refusals as refusals;
 ghost use Rattle.paper.specs.Reaction.{Program};
 ghost use Rattle.limits.specs.Checks.{checked};
-ghost use Rattle.limits.specs.Found.{found};
-ghost use Rattle.limits.specs.Nodes.{Written};
+ghost use Rattle.letters.specs.Found.{found};
+ghost use Rattle.stars.specs.Nodes.{Written};
 ghost use Rattle.paper.specs.Parse.{parse, program};
 ghost use Rattle.text.specs.Spans.{valueIn};
 ghost use Rattle.reader.specs.Reads.{editionOf};
 ghost use Rattle.reader.specs.Stages.{Taken, textOf, HasTree, limited};
 use super::lists::lists_of;
-use limits::Found;
-use limits::checks::Checked;
-use limits::checks::for_basic;
-use limits::checks::with_letters;
-use limits::checks::within_limits;
-use limits::text::over_96;
+use letters::Found;
+use limits::Checked;
+use limits::for_basic;
+use limits::with_letters;
+use limits::within_limits;
 use text::Lines;
 use text::Span;
+use tokens::over_96;
 
 // Where a line stands, if it is there.
 fn line_found(span: Span) -> Found

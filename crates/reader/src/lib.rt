@@ -17,9 +17,9 @@ pub mod checks;
 pub mod lists;
 
 use checks::check;
-use limits::checks::Checked;
-use limits::names::Names;
-use limits::names::ascending;
+use letters::Names;
+use letters::ascending;
+use limits::Checked;
 use lists::letters_of;
 use nodes::clear;
 use nodes::make_nodes;

@@ -4,11 +4,11 @@ ghost use mathlib.Core.Bool.{Bool, false, _||_};
 ghost use mathlib.Core.List.{List};
 ghost use Prim.Native.Nat.{ℕ, _≤_, _<_};
 ghost use lib.ListN.{length, getD};
-ghost use Rattle.limits.specs.Letters.{TellsFrom};
+ghost use Rattle.letters.specs.Letters.{TellsFrom};
 ghost use lib.Seq.{slice};
 ghost use Rattle.reader.specs.Stages.{Taken, Listing};
-use limits::checks::Lists;
-use limits::letters::used;
+use letters::used;
+use limits::Lists;
 use text::Lines;
 use text::Span;
 

@@ -1,9 +1,9 @@
 // Reads configuration files from standard input, many through one process. A frame is the file's length in two bytes, high first, and its bytes. Each
 // frame gets two lines, for Basic and for Adaptive: `refused NUMBER at PLACE`, or `read`, the modules, the events, the fugitive ones (`-` for none), and
 // the program's nodes in postorder. A frame that is cut short ends the run.
+use letters::Names;
 use libc::STDIN_FILENO;
 use libc::STDOUT_FILENO;
-use limits::names::Names;
 use reader::Program;
 use reader::Verdict;
 ghost use Prim.Native.Nat.{_≤_, _<_};

@@ -154,8 +154,7 @@ fn rewrite_leaf(p: &[u8], unit: usize, dst: &mut [usize], e: usize, letter: Lett
 }
 
 // Rewrites the term whose word starts at s, and writes what is left of it in front of place e: e itself where nothing is left.
-// Ruled out (must-fail/): the rightmost alternative hit, a side that waits without its `1`, a star that unrolls though its part is equal, a
-// sequence that does not go on.
+// Ruled out (must-fail/): the rightmost alternative hit, a star that unrolls though its part is equal.
 pub fn rewrite_term(
     p: &[u8],
     src: &[usize],
@@ -241,7 +240,7 @@ fn oldest_armed(p: &[u8], w: &[usize], s: usize, memory: Memory) -> usize
     n
 }
 
-// The event at a place leaves the memory: those after it move up. Ruled out (must-fail/): two events leave.
+// The event at a place leaves the memory: those after it move up.
 pub fn forget(memory: Memory, at: usize) -> Memory
     requires { ⌜ (at < memory .count) × (memory .count ≤ 8) ⌝ }
     ensures { λ r. ⌜ (r .count + 1 ≡ memory .count) × (stored r ≡ removed at (stored memory)) ⌝ }
@@ -259,7 +258,7 @@ pub fn forget(memory: Memory, at: usize) -> Memory
     }
 }
 
-// An event is stored as the newest. Ruled out (must-fail/): it is not counted.
+// An event is stored as the newest.
 pub fn store(memory: Memory, e: usize) -> Memory
     requires { ⌜ memory .count < 8 ⌝ }
     ensures { λ r. ⌜ (r .count ≡ memory .count + 1) × (stored r ≡ stored memory ++ (e ∷ [])) ⌝ }
@@ -280,7 +279,6 @@ pub struct Settled {
 }
 
 // While a stored event is armed, the oldest such is taken and leaves the memory; at the end the memory is empty.
-// Ruled out (must-fail/): an event served that is not armed, one that stays stored, another that leaves.
 pub fn settle(p: &[u8], w: &mut [usize], s: usize, tmp: &mut [usize], memory: Memory) -> Settled
     requires { ⌜ Table (now p) × (Stands (now p) (now w) s × ((length (now tmp) ≡ 96) × (memory .count ≤ 8))) ⌝ }
     ensures { λ r. ⌜ Rests (now (p .entry)) (now (w .exit)) r (settled (state (now (p .entry)) (now (w .entry)) s) (stored memory)) ⌝ }
@@ -405,7 +403,6 @@ pub fn advance(
 }
 
 // The order to a module, by whether it is the completed one, ran before, runs after, and is in the stopped set: 0 none, 1 start, 2 resume, 3 stop.
-// Ruled out (must-fail/): a module that was not stopped is resumed.
 pub fn order(own: bool, before: bool, after: bool, stopped: bool) -> u8
     ensures { λ r. ⌜ r ≡ orderOf own before after stopped ⌝ }
 {
@@ -420,7 +417,7 @@ pub fn order(own: bool, before: bool, after: bool, stopped: bool) -> u8
     }
 }
 
-// Whether a module is in the stopped set afterwards. Ruled out (must-fail/): one that stops does not join it.
+// Whether a module is in the stopped set afterwards.
 pub fn stays(own: bool, before: bool, after: bool, stopped: bool) -> bool
     ensures { λ r. ⌜ r ≡ staysIn own before after stopped ⌝ }
 {

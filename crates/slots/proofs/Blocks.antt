@@ -7,12 +7,13 @@ use mathlib.Core.Bool.{Bool, true, false}
 use mathlib.Core.List.{List, [], _∷_, _++_, append-assoc}
 use native.Mathlib.Nat.{suc-add, zero-add}
 use native.Mathlib.Omega.{arith}
-use lib.Dec.{T}
+use lib.Dec.{T, eqb, eqb·suc-zero}
 use lib.ListN.{length, getD, take, drop, length-drop}
 use lib.Seq.{getD-take, getD-drop, take-take, take-nil, take-all, take-at, drop-at, length-take-le, ext-getD, paste}
+use borrow.Author.Count.{below-more}
 use Rattle.paper.specs.Lists.{eqL}
 use Rattle.paper.proofs.Equal.{eqL-sound, eqL-refl}
-use Rattle.slots.specs.Slots.{block, Holds}
+use Rattle.slots.specs.Slots.{block, lastBelow, Holds}
 
 -- ---- the test of equality
 
@@ -28,6 +29,28 @@ test-false b c d = known (eqL b c) (λ h. d (sym (eqL-sound b c h))) where
   known true h = absurd (h tt)
   known false h = refl
 
+-- ---- how many bytes differ
+
+-- of the first i bytes d differ
+pub record Differ (W : List ℕ) (at : ℕ) (b : List ℕ) (d i : ℕ) : Type 0 where
+  pub few : d ≤ i
+  pub none : d ≡ 0 → (k : ℕ) → k < i → getD W (at + k) 0 ≡ getD b k 0
+  pub some : 0 < d → (k : ℕ) × (k < i) × (getD W (at + k) 0 ≡ getD b k 0 → ⊥)
+
+module _ (W : List ℕ) (at : ℕ) (b : List ℕ) where
+  pub differ-none : Differ W at b 0 0
+  differ-none = record { few = omega arith; none = λ e k h. absurd (omega arith); some = λ h. absurd (omega arith) }
+
+  pub differ-same : (d i : ℕ) → Differ W at b d i → getD W (at + i) 0 ≡ getD b i 0 → Differ W at b d (i + 1)
+  differ-same d i r e = record {
+    few = omega (arith, r .few);
+    none = λ z. below-more _ _ (r .none z) e;
+    some = λ h. (r .some h .0, omega (arith, r .some h .1), r .some h .2);
+  }
+
+  pub differ-more : (d i : ℕ) → Differ W at b d i → (getD W (at + i) 0 ≡ getD b i 0 → ⊥) → Differ W at b (d + 1) (i + 1)
+  differ-more d i r e = record { few = omega (arith, r .few); none = λ z. absurd (omega arith); some = λ h. (i, omega arith, e) }
+
 -- ---- the bytes of a part
 
 module _ (W : List ℕ) (at : ℕ) (fits : at + 128 ≤ length W) where
@@ -38,13 +61,19 @@ module _ (W : List ℕ) (at : ℕ) (fits : at + 128 ≤ length W) where
   part-at k h = getD-take 128 (drop at W) k 0 h ∙ getD-drop at W k 0
 
   module _ (b : List ℕ) (long : length b ≡ 128) where
-    pub same-all : ((k : ℕ) → k < 128 → getD W (at + k) 0 ≡ getD b k 0) → true ≡ eqL b (take 128 (drop at W))
+    same-all : ((k : ℕ) → k < 128 → getD W (at + k) 0 ≡ getD b k 0) → true ≡ eqL b (take 128 (drop at W))
     same-all f =
         test-true b (take 128 (drop at W))
         (ext-getD 0 (take 128 (drop at W)) b (part-long ∙ sym long) (λ k h. part-at k (omega (arith, part-long)) ∙ f k (omega (arith, part-long))))
 
-    pub same-not : (k : ℕ) → k < 128 → (getD W (at + k) 0 ≡ getD b k 0 → ⊥) → false ≡ eqL b (take 128 (drop at W))
+    same-not : (k : ℕ) → k < 128 → (getD W (at + k) 0 ≡ getD b k 0 → ⊥) → false ≡ eqL b (take 128 (drop at W))
     same-not k h d = test-false b (take 128 (drop at W)) (λ e. d (sym (part-at k h) ∙ ap (λ (l : List ℕ). getD l k 0) e))
+
+    pub differ-whole : (d i : ℕ) → Differ W at b d i → i ≡ 128 → eqb d 0 ≡ eqL b (take 128 (drop at W))
+    differ-whole zero i r e = same-all (λ k h. r .none refl k (omega arith))
+    differ-whole (suc d) i r e =
+        let s = r .some (omega arith) in
+        eqb·suc-zero d ∙ same-not (s .0) (omega (arith, s .1)) (s .2)
 
 -- ---- a copy behind the first n blocks
 
@@ -84,9 +113,17 @@ module _ (W b : List ℕ) (n : ℕ) (fits : 128 * n + 128 ≤ length W) (long : 
 
 -- ---- the blocks held
 
--- at first there are none
-pub holds-none : (W H : List ℕ) → Holds W H []
-holds-none W H = record { blocks = λ i h. absurd (omega arith); hashes = λ i h. absurd (omega arith); few = omega arith }
+-- at first there are none, and no bucket has one
+pub holds-none : (W X : List ℕ) → ((k : ℕ) → k < 512 → getD X (1024 + k) 0 ≡ 0) → Holds W X []
+unfolding lastBelow
+holds-none W X z = record {
+  blocks = λ i h. absurd (omega arith);
+  hashes = λ i h. absurd (omega arith);
+  links = λ i h. absurd (omega arith);
+  heads = z;
+  once = λ i h. absurd (omega arith);
+  few = omega arith;
+}
 
-pub holds-long : {W H : List ℕ} {cs : List (List ℕ)} → 65536 ≤ length W → Holds W H cs → (i : ℕ) → i < length cs → length (getD cs i []) ≡ 128
+pub holds-long : {W X : List ℕ} {cs : List (List ℕ)} → 65536 ≤ length W → Holds W X cs → (i : ℕ) → i < length cs → length (getD cs i []) ≡ 128
 holds-long {W} l s i h = ap length (sym (s .blocks i h)) ∙ part-long W (128 * i) (omega (arith, s .few))

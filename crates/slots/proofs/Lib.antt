@@ -1,5 +1,6 @@
 -- Laws that several proofs cite, and those of the numbers for callers.
 pub mod Numbers
-pub mod Hashes
+pub mod Buckets
 pub mod Blocks
+pub mod Searching
 pub mod Enrolling

@@ -1,18 +1,15 @@
 -- The number of a block in a list: its first place there, the list's length where it has none.
 --     number-within, number-there, number-first, number-known    for callers: the number says whether the block is there, and where
 --     number-append, number-past, number-new                     for callers: what blocks behind the others change
---     number-here, number-on, number-end                         the search, a block at a time
 -- Assumes nothing.
 use Prim.Native.Nat.{ℕ, zero, suc, _+_, _≤_, _<_, suc-le-suc}
 use mathlib.Core.Path.{_≡_, refl, sym, ap, subst, _∙_}
 use mathlib.Core.Bool.{not}
 use mathlib.Core.List.{List, [], _∷_, _++_}
 use native.Mathlib.Nat.{le-of-suc-le-suc, suc-inj}
-use native.Mathlib.Numerals.{add-one}
 use native.Mathlib.Omega.{arith}
-use lib.Dec.{T, T-not, not-T}
-use lib.ListN.{length, getD, drop, drop-of-length-le}
-use lib.Seq.{drop-cons}
+use lib.Dec.{T, T-not}
+use lib.ListN.{length, getD}
 use Rattle.paper.specs.Lists.{eqL}
 use Rattle.paper.proofs.Choices.{by-test}
 use Rattle.paper.proofs.Equal.{eqL-sound, eqL-refl}
@@ -90,17 +87,3 @@ number-past b (c ∷ cs) ds h =
 -- a new block has the next number
 pub number-new : (b : List ℕ) (cs : List (List ℕ)) → numberIn b cs ≡ length cs → numberIn b (cs ++ b ∷ []) ≡ length cs
 number-new b cs h = omega (arith, number-past b cs (b ∷ []) h, number-same b b [] (eqL-refl b))
-
--- ---- the search
-
-pub number-here : (b : List ℕ) (cs : List (List ℕ)) (i : ℕ) → i < length cs → T (eqL b (getD cs i [])) → numberIn b (drop i cs) ≡ 0
-number-here b cs i h t = ap (numberIn b) (drop-cons cs i [] h) ∙ number-same b (getD cs i []) (drop (suc i) cs) t
-
-pub number-on : (b : List ℕ) (cs : List (List ℕ)) (i : ℕ) → i < length cs → (T (eqL b (getD cs i [])) → ⊥) → numberIn b (drop i cs) ≡ suc (numberIn b (drop (i + 1) cs))
-number-on b cs i h d =
-    ap (numberIn b) (drop-cons cs i [] h) ∙ number-other b (getD cs i []) (drop (suc i) cs) (not-T (eqL b (getD cs i [])) d)
-    ∙ ap (λ (n : ℕ). suc (numberIn b (drop n cs))) (sym (add-one i))
-
-pub number-end : (b : List ℕ) (cs : List (List ℕ)) (i : ℕ) → length cs ≤ i → numberIn b (drop i cs) ≡ 0
-unfolding numberIn
-number-end b cs i h = ap (numberIn b) (drop-of-length-le cs {i = i} h)

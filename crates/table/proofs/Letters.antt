@@ -13,8 +13,8 @@ use Rattle.paper.specs.Lists.{from, below}
 use Rattle.paper.specs.Grammar.{moduleByte, eventByte}
 use Rattle.paper.specs.IsTable.{nameAt, moduleCount, eventCount, tableModules, tableEvents}
 use Rattle.paper.specs.Calls.{indexFrom, letterBytes}
-use Rattle.table.specs.declared.Counts.{Counts}
-use Rattle.table.specs.Check.{Read}
+use Rattle.counts.specs.declared.Counts.{Counts}
+use Rattle.counts.specs.Counts.{Read}
 
 -- ---- a search
 

@@ -1,7 +1,4 @@
-pub mod Entries
-pub mod Rows
-pub mod Names
-pub mod Check
+-- Laws of the answers. Assumes nothing.
 pub mod Eight
 pub mod Letters
 pub mod Outcomes

@@ -10,12 +10,12 @@ use lib.Dec.{eqb, ltb}
 use Rattle.paper.specs.Lists.{chosen, below}
 use Rattle.paper.specs.IsTable.{field, moduleCount, eventCount, stateCount, isTable, startAt, nextAt, orderAt, tableModules, tableEvents}
 use Rattle.paper.specs.Calls.{Stepped, eight, notStepped, stepsTo, tableStart, tableStep, indexFrom, letterBytes, entered}
-use Rattle.table.specs.declared.Counts.{Counts}
+use Rattle.counts.specs.declared.Counts.{Counts}
 use Rattle.table.specs.declared.Found.the-variants.{NotTable, NoState, NoLetter, NotRunning, Goes}
 use Rattle.layout.specs.Places.{place}
-use Rattle.table.specs.Check.{Read}
+use Rattle.counts.specs.Counts.{Read}
 use Rattle.table.specs.Answers.{foundSays, fieldsFrom}
-use Rattle.table.proofs.Rows.{with-counts}
+use Rattle.counts.proofs.Counted.{with-counts}
 
 -- ---- start
 

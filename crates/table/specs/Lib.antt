@@ -1,2 +1,2 @@
-pub mod Check
+-- What the contracts of `table` cite. Assumes nothing.
 pub mod Answers

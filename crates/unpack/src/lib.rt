@@ -84,7 +84,7 @@ fn clear(live: &[u8], n: usize) -> bool
 }
 
 // Whether the length is one of a word, nothing stands behind the word or in the last two bytes, and nothing is stopped or stored at the end.
-// Ruled out (must-fail/): the last byte not looked at, a module stopped at the end.
+// Ruled out (must-fail/): the last byte not looked at.
 fn shaped(live: &[u8]) -> bool
     requires { ⌜ length (now live) ≡ 128 ⌝ }
     ensures { λ r. ⌜ Tells r (Shaped (now (live .entry))) ⌝ }
@@ -157,7 +157,7 @@ fn limit(i: usize, c: usize, n: usize) -> usize
     if i < c { n } else { 0 }
 }
 
-// Whether the first c marks are at most n, and the others zero. Ruled out (must-fail/): others that are not.
+// Whether the first c marks are at most n, and the others zero.
 fn limited(live: &[u8], c: usize, n: usize) -> bool
     requires { ⌜ length (now live) ≡ 128 ⌝ }
     ensures { λ r. ⌜ Tells r (Limited (now (live .entry)) c n) ⌝ }
@@ -207,7 +207,7 @@ fn is_again(memory: Memory, i: usize) -> bool
     false
 }
 
-// Whether no event is stored twice, and none is fugitive. Ruled out (must-fail/): a fugitive event, an event twice.
+// Whether no event is stored twice, and none is fugitive. Ruled out (must-fail/): an event twice.
 fn is_fresh(memory: Memory, fugitive: &[bool; 26]) -> bool
     requires { ⌜ (memory .count ≤ 8) × ((i : ℕ) → i < memory .count → getD (memory .events) i 0 < 26) ⌝ }
     ensures { λ r. ⌜ r ≡ fresh (now (fugitive .entry)) (stored memory) ⌝ }
@@ -253,7 +253,7 @@ fn refused() -> Unpacked
 }
 
 // The state that the bytes code, with its word at the end of w; tmp is written in. Found is false where they are the code of no state of the
-// program: No. 23. Ruled out (must-fail/): a stopped set by the events, a word said to start where it does not.
+// program: No. 23.
 pub fn unpack(
     p: &[u8],
     weights: &[u8],

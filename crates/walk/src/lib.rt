@@ -76,7 +76,7 @@ fn is_node(p: &[u8], j: usize, w: &[usize], i: usize, tmp: &mut [usize]) -> bool
     words::same(w, i, z, tmp, a, 96)
 }
 
-// A term that weighs a, followed by node y. Ruled out (must-fail/): an event there.
+// A term that weighs a, followed by node y.
 fn weigh_seq(p: &[u8], weights: &[u8], y: usize, a: usize) -> usize
     requires { ⌜ Weighted (now p) (now weights) × ((y < 192) × (a ≤ 96)) ⌝ }
     ensures { λ r. ⌜ JoinJudged (now (p .entry)) y a r ⌝ }
@@ -92,7 +92,7 @@ fn weigh_seq(p: &[u8], weights: &[u8], y: usize, a: usize) -> usize
     greater(room(a) + 1, wide(weights[y]))
 }
 
-// The starred node j before a part that weighs a and starts at i. Ruled out (must-fail/): a part compared with another node.
+// The starred node j before a part that weighs a and starts at i.
 fn weigh_star(
     p: &[u8],
     weights: &[u8],
@@ -175,7 +175,7 @@ fn weigh_join(p: &[u8], weights: &[u8], w: &[usize], i: usize, tmp: &mut [usize]
     }
 }
 
-// What the unit at place i makes of the n terms behind it, of which the first two weigh a and b. Ruled out (must-fail/): another module.
+// What the unit at place i makes of the n terms behind it, of which the first two weigh a and b.
 fn weigh_unit(
     p: &[u8],
     weights: &[u8],
@@ -209,7 +209,7 @@ fn weigh_unit(
 }
 
 // Whether the word from place s on is one that a state of the program can have: right, of one term or none, its modules the program's, and of a
-// weight of at most 96. Ruled out (must-fail/): a weight that is not looked at, two terms.
+// weight of at most 96. Ruled out (must-fail/): two terms.
 pub fn walk(
     p: &[u8],
     weights: &[u8],

@@ -46,7 +46,7 @@ pub fn put(dst: &mut [usize], e: usize, unit: usize) -> usize
     e - 1
 }
 
-// Puts `/` with the interruption i to the term whose word starts at place e: `1/i` is the one unit Wait i. Ruled out (must-fail/): Act there.
+// Puts `/` with the interruption i to the term whose word starts at place e: `1/i` is the one unit Wait i.
 pub fn put_act(dst: &mut [usize], e: usize, i: usize) -> usize
     requires { ⌜ ((getD (now dst) e 0 ≡ 768 → ⊥) → 1 ≤ e) × ((e < length (now dst)) × (i < 192)) ⌝ }
     ensures { λ r. ⌜ Faced (now (dst .entry)) (now (dst .exit)) e r i ⌝ }
@@ -84,7 +84,7 @@ pub fn expand(p: &[u8], j: usize, dst: &mut [usize], e: usize) -> usize
     }
 }
 
-// The place past the word that starts at s. Ruled out (must-fail/): past the left side of a `||` only.
+// The place past the word that starts at s.
 pub fn skip(p: &[u8], src: &[usize], s: usize) -> usize
     requires { ⌜ Src (now p) (now src) s ⌝ }
     ensures { λ r. ⌜ Past (now (p .entry)) (now (src .entry)) s r ⌝ }

@@ -1,8 +1,10 @@
 -- `discover::discover` meets its contract: the start's code is enrolled first, so the start stands in the working slice (`seen-start`), and all that follows
 -- is `explore`. Assumes nothing.
+use Prim.Native.Nat.{_+_}
 use mathlib.Core.Path.{refl}
 use mathlib.Core.List.{[]}
 use native.Mathlib.Omega.{arith}
+use lib.ListN.{getD-replicate}
 use borrow.Author.Needs.{needs}
 use Rattle.slots.proofs.Blocks.{holds-none}
 use Rattle.discover.proofs.Exploring.{seen-start, begins-code, begins-running}
@@ -46,9 +48,9 @@ explore-requires : tie.Need-explore-requires
 explore-requires c κs =
     let p = c .before .before .before .before .before .before .before .before .before .before .before .before .before .before .before .before .before .before .before .before .before .before .before .before .before .before .before .pre in
     let b = p .0 in (
-      record { stocked = record { program = b .program; loaded = b .loaded; kinds = b .kinds; weighted = b .weighted; counted = c .before .before .before .before .before .before .before .before .before .before .before .before .before .before .before .before .before .before .before .count-parts .ensures }; seen = seen-start (b .program) (b .loaded .fit) (c .before .before .before .before .before .before .before .before .before .before .enroll .ensures [] (holds-none _ _) refl) (begins-code (b .program) (c .before .before .before .before .before .before .before .before .before .before .before .before .before .before .before .before .begin .result) (c .before .before .before .before .before .before .before .before .before .before .before .before .before .before .before .before .begin .ensures (b .program) (b .loaded) (b .rooted))) },
+      record { stocked = record { program = b .program; loaded = b .loaded; kinds = b .kinds; weighted = b .weighted; counted = c .before .before .before .before .before .before .before .before .before .before .before .before .before .before .before .before .before .before .before .count-parts .ensures }; seen = seen-start (b .program) (b .loaded .fit) (c .before .before .before .before .before .before .before .before .before .before .enroll .ensures [] (holds-none _ _ (λ k h. getD-replicate 1536 (1024 + k) 0 0 (omega arith))) refl) (begins-code (b .program) (c .before .before .before .before .before .before .before .before .before .before .before .before .before .before .before .before .begin .result) (c .before .before .before .before .before .before .before .before .before .before .before .before .before .before .before .before .begin .ensures (b .program) (b .loaded) (b .rooted))) },
       (
-        record { word = search needs; next = search needs; tmp = search needs; work = omega (arith, p .1 .0, c .before .before .before .before .before .before .before .before .before .before .enroll .kept); hashes = search needs; few = search needs },
+        record { word = search needs; next = search needs; tmp = search needs; work = omega (arith, p .1 .0, c .before .before .before .before .before .before .before .before .before .before .enroll .kept); index = search needs; few = search needs },
         p .1 .1,
       ),
     )
@@ -63,7 +65,7 @@ returns : tie.Need-returns
 returns c = λ q d t k.
     let b = c .before .before .before .before .before .before .before .before .before .before .before .before .before .before .before .before .before .before .before .before .before .before .before .before .before .begin in
     let z = b .ensures q d t in
-    record { explored = c .before .before .before .before .before .before .before .before .explore .ensures q d k (seen-start q (d .fit) (c .before .before .before .before .before .before .before .before .before .before .before .before .before .before .before .before .before .before .before .enroll .ensures [] (holds-none _ _) refl) (begins-code q (b .result) z)); running-are = begins-running q (b .result) z (c .before .before .before .before .before .before .before .before .before .before .before .before .before .before .before .before .before .before .before .before .before .before .before .before .before .before .before .before .before .before .before .before .before .before .before .before .args .modules .now) (d .its .modules-are) }
+    record { explored = c .before .before .before .before .before .before .before .before .explore .ensures q d k (seen-start q (d .fit) (c .before .before .before .before .before .before .before .before .before .before .before .before .before .before .before .before .before .before .before .enroll .ensures [] (holds-none _ _ (λ k h. getD-replicate 1536 (1024 + k) 0 0 (omega arith))) refl) (begins-code q (b .result) z)); running-are = begins-running q (b .result) z (c .before .before .before .before .before .before .before .before .before .before .before .before .before .before .before .before .before .before .before .before .before .before .before .before .before .before .before .before .before .before .before .before .before .before .before .before .args .modules .now) (d .its .modules-are) }
 
 pub discover-spec : {M : Type 1} → statement M
 discover-spec =

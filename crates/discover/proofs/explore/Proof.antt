@@ -16,19 +16,19 @@ use Rattle.discover.proofs.explore.Statement.{statement}
 use Rattle.discover.proofs.explore.Tie as tie
 
 abbrev Inv-loop : tie.InvT-loop
-Inv-loop nodes weights modules events fugitive sizes w₀ next₀ tmp₀ work₀ hashes₀ entries₀ count₀ large₀ k₀ w next tmp work hashes entries count large k =
+Inv-loop nodes weights modules events fugitive sizes w₀ next₀ tmp₀ work₀ index₀ entries₀ count₀ large₀ k₀ w next tmp work index entries count large k =
     (k ≤ count)
     × (count ≤ 512)
     × (length w ≡ length w₀)
     × (length next ≡ length next₀)
     × (length tmp ≡ length tmp₀)
     × (length work ≡ length work₀)
-    × (length hashes ≡ length hashes₀)
+    × (length index ≡ length index₀)
     × (length entries ≡ length entries₀)
-    × ((q : Program) → Loaded q nodes modules events → Kinds q fugitive → Seen q work₀ hashes₀ (startOf q ∷ []) → Exploring q work hashes entries k count large)
+    × ((q : Program) → Loaded q nodes modules events → Kinds q fugitive → Seen q work₀ index₀ (startOf q ∷ []) → Exploring q work index entries k count large)
 
 abbrev μ-loop : tie.MeasureT-loop
-μ-loop nodes weights modules events fugitive sizes w₀ next₀ tmp₀ work₀ hashes₀ entries₀ count₀ large₀ k₀ w next tmp work hashes entries count large k =
+μ-loop nodes weights modules events fugitive sizes w₀ next₀ tmp₀ work₀ index₀ entries₀ count₀ large₀ k₀ w next tmp work index entries count large k =
     512 - k
 
 loop-holds : tie.Need-loop-holds Inv-loop μ-loop
@@ -42,7 +42,7 @@ visit-requires c κs =
     let t = i .inv .8 q (p .0 .stocked .loaded) (p .0 .stocked .kinds) (p .0 .seen) in (
       record { stocked = p .0 .stocked; states = turned q (i .k) .seen; seen = t .seen; count-is = t .count-is; turn = c .before .before .before .before .before .before .loop-test .taken },
       (
-        record { word = omega (arith, p .1 .0 .word); next = omega (arith, p .1 .0 .next); tmp = omega (arith, p .1 .0 .tmp); work = omega (arith, p .1 .0 .work); hashes = omega (arith, p .1 .0 .hashes); few = i .inv .1 },
+        record { word = omega (arith, p .1 .0 .word); next = omega (arith, p .1 .0 .next); tmp = omega (arith, p .1 .0 .tmp); work = omega (arith, p .1 .0 .work); index = omega (arith, p .1 .0 .index); few = i .inv .1 },
         omega (arith, p .1 .1),
       ),
     )

@@ -3,7 +3,7 @@
 use native.Mathlib.Omega.{arith}
 use Rattle.table.specs.Answers.{Fine}
 use Rattle.layout.proofs.Places.{entry-within}
-use Rattle.table.proofs.Rows.{within-all, short-all}
+use Rattle.counts.proofs.Counted.{within-all, short-all}
 use Rattle.table.proofs.Outcomes.{step-22, step-to}
 use borrow.Author.Needs.{needs}
 use Rattle.table.proofs.entry_at.Statement.{statement}

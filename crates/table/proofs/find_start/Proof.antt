@@ -1,7 +1,7 @@
 -- `table::find_start` meets its contract: what is no table is refused, and a table's start bits are found.
 -- Assumes nothing.
 use mathlib.Core.Path.{subst}
-use Rattle.table.specs.Check.{checkSays}
+use Rattle.valid.specs.Check.{checkSays}
 use Rattle.table.specs.Answers.{Fine}
 use Rattle.table.proofs.Outcomes.{start-no}
 use borrow.Author.Needs.{needs}

@@ -1,7 +1,7 @@
 -- `table::find_step` meets its contract: what is no table is refused first, then what `find_entry` finds.
 -- Assumes nothing.
 use mathlib.Core.Path.{subst}
-use Rattle.table.specs.Check.{checkSays}
+use Rattle.valid.specs.Check.{checkSays}
 use Rattle.table.specs.Answers.{Fine}
 use Rattle.table.proofs.Outcomes.{step-19}
 use borrow.Author.Needs.{needs}

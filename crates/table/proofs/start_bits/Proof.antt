@@ -2,7 +2,7 @@
 -- Assumes nothing.
 use native.Mathlib.Omega.{arith}
 use Rattle.table.specs.Answers.{Fine}
-use Rattle.table.proofs.Rows.{within-all, short-all}
+use Rattle.counts.proofs.Counted.{within-all, short-all}
 use Rattle.table.proofs.Outcomes.{start-is}
 use borrow.Author.Needs.{needs}
 use Rattle.table.proofs.start_bits.Statement.{statement}

@@ -2,7 +2,7 @@
 use mathlib.Core.Path.{sym, ap, _∙_}
 use mathlib.Core.Bool.{Bool}
 use Rattle.paper.specs.Refusals.{forEdition}
-use Rattle.limits.specs.declared.checks.Checked.{Checked}
+use Rattle.limits.specs.declared.Checked.{Checked}
 use Rattle.limits.specs.Checks.{checked}
 use Rattle.reader.specs.Reads.{editionOf}
 use borrow.Author.Needs.{needs}

@@ -1,0 +1,3 @@
+-- Laws of the entries. Assumes nothing.
+pub mod Entries
+pub mod Rows

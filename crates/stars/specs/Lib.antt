@@ -1,0 +1,2 @@
+-- The definitions that the contracts of `stars` and `joins` cite. Assumes nothing.
+pub mod Nodes

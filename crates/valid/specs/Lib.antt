@@ -1,0 +1,2 @@
+-- What the contracts of `valid` cite. Assumes nothing.
+pub mod Check
