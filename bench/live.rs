@@ -23,6 +23,7 @@ struct Answer {
 extern "C" {
     fn cart_live_start(file: *const u8, size: usize, live: *mut u8, count: usize) -> Answer;
     fn cart_live_step(file: *const u8, size: usize, live: *mut u8, count: usize, letter: u8) -> Answer;
+    fn plain_live_start(file: *const u8, size: usize, live: *mut u8, count: usize) -> Answer;
     fn plain_live_step(file: *const u8, size: usize, live: *mut u8, count: usize, letter: u8) -> Answer;
     fn clock_gettime(clock: i32, now: *mut [i64; 2]) -> i32;
 }
@@ -183,6 +184,13 @@ fn main() -> ExitCode {
     let three = |live: &Live, letter: u8| drop(black_box(live_bytes::step(black_box(PROGRAM), live, letter)));
     let [proved_ns, plain_ns, twin_ns] = medians(&mut [&mut stepping(&steps, one), &mut stepping(&steps, two), &mut stepping(&steps, three)]);
     let ratio = proved_ns / plain_ns;
+    // a start leaves its code in the slice, which the next one does not look at
+    let (mut began, mut plainly) = ([0; LIVE_BYTES], [0; LIVE_BYTES]);
+    let mut first = || drop(black_box(unsafe { cart_live_start(black_box(PROGRAM).as_ptr(), PROGRAM.len(), began.as_mut_ptr(), LIVE_BYTES) }));
+    let mut second = || drop(black_box(unsafe { plain_live_start(black_box(PROGRAM).as_ptr(), PROGRAM.len(), plainly.as_mut_ptr(), LIVE_BYTES) }));
+    let mut third = || drop(black_box(live_bytes::start(black_box(PROGRAM), &[0; LIVE_BYTES])));
+    let [one_ns, two_ns, three_ns] = medians(&mut [&mut first, &mut second, &mut third]);
+    println!("start: proved {one_ns:.0} ns, plain C {two_ns:.0} ns, second program {three_ns:.0} ns");
     let most = |once| steps.iter().map(|step| stack_of(*step, once)).max().unwrap_or(0);
     println!("step: proved {proved_ns:.0} ns, plain C {plain_ns:.0} ns, second program {twin_ns:.0} ns");
     println!("ratio of proved to plain C {ratio:.3}, to second program {:.3}", proved_ns / twin_ns);
