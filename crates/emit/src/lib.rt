@@ -115,8 +115,8 @@ fn pad(out: &mut [u8], bit: usize) -> usize
     append(out, bit, zeros, 0) / 8
 }
 
-// Writes a table at the front of `out` and answers how many bytes it has; the bytes behind it keep theirs. Ruled out (must-fail/): states counted
-// and not states less one, padding of ones, orders that begin one module early.
+// Writes a table at the front of `out` and answers how many bytes it has; the bytes behind it keep theirs. Ruled out
+// (must-fail/): orders that begin one module early.
 pub fn emit(
     modules: &[u8],
     events: &[u8],

@@ -155,7 +155,6 @@ fn row_weight(k: u8, l: u8, r: u8) -> u8
 }
 
 // The weight of each node, in w; what lies behind them stays.
-// Ruled out (must-fail/): a treatment that weighs as its event.
 pub fn weigh(nodes: &[u8], w: &mut [u8])
     requires { ⌜ Weighable (now nodes) (length (now w)) ⌝ }
     ensures { λ r. ⌜ Weighed (now (nodes .entry)) (now (w .entry)) (now (w .exit)) ⌝ }

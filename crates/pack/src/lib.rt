@@ -127,7 +127,7 @@ fn put_marks(events: &[u8], memory: Memory, b: &mut [u8])
 }
 
 // The 128 bytes of a state: a zeroed array, filled with its code. The table says what the word's units mean, and is not read.
-// Ruled out (must-fail/): high bits of the next unit, marks that are not shifted.
+// Ruled out (must-fail/): high bits of the next unit.
 pub fn pack(
     p: &[u8],
     modules: &[u8],

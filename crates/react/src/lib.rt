@@ -123,7 +123,7 @@ fn give_orders(
 }
 
 // One reaction: the state after a letter, and the orders. At the end the stopped set is emptied, after the orders are worked out.
-// Ruled out (must-fail/): a stopped set that is not emptied at the end, a completed module that is resumed, a state that is left as it is.
+// Ruled out (must-fail/): a completed module that is resumed, a state that is left as it is.
 pub fn react(
     p: &[u8],
     modules: &[u8],

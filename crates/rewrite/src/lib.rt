@@ -154,7 +154,7 @@ fn rewrite_leaf(p: &[u8], unit: usize, dst: &mut [usize], e: usize, letter: Lett
 }
 
 // Rewrites the term whose word starts at s, and writes what is left of it in front of place e: e itself where nothing is left.
-// Ruled out (must-fail/): the rightmost alternative hit, a star that unrolls though its part is equal.
+// Ruled out (must-fail/): a star that unrolls though its part is equal.
 pub fn rewrite_term(
     p: &[u8],
     src: &[usize],

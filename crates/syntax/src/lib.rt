@@ -412,7 +412,7 @@ fn clear(code: &mut [u8], left: &mut [u8], place: &mut [u16])
 }
 
 // Reads the program that is written in s from `at` to the end, and writes its tree. Where s has no program the slices are cleared.
-// Ruled out (must-fail/): a failure one byte early, bytes behind `.` let pass.
+// Ruled out (must-fail/): bytes behind `.` let pass.
 pub fn read_program(s: &[u8], at: usize, code: &mut [u8], left: &mut [u8], place: &mut [u16]) -> Got
     requires { ⌜ length (now s) ≤ 65536 ⌝ }
     requires { ⌜ Room (store (now code) (now left) (now place) 0) ⌝ }

@@ -49,7 +49,7 @@ fn quarter(x: usize, r: usize) -> usize
     }
 }
 
-// The i-th unit. Ruled out (must-fail/): its high bits misread.
+// The i-th unit.
 fn unit(live: &[u8], i: usize) -> usize
     requires { ⌜ (length (now live) ≡ 128) × (i < 96) ⌝ }
     ensures { λ r. ⌜ r ≡ unitIn (now (live .entry)) i ⌝ }
@@ -84,7 +84,6 @@ fn clear(live: &[u8], n: usize) -> bool
 }
 
 // Whether the length is one of a word, nothing stands behind the word or in the last two bytes, and nothing is stopped or stored at the end.
-// Ruled out (must-fail/): the last byte not looked at.
 fn shaped(live: &[u8]) -> bool
     requires { ⌜ length (now live) ≡ 128 ⌝ }
     ensures { λ r. ⌜ Tells r (Shaped (now (live .entry))) ⌝ }

@@ -209,7 +209,7 @@ fn weigh_unit(
 }
 
 // Whether the word from place s on is one that a state of the program can have: right, of one term or none, its modules the program's, and of a
-// weight of at most 96. Ruled out (must-fail/): two terms.
+// weight of at most 96.
 pub fn walk(
     p: &[u8],
     weights: &[u8],

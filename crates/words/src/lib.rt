@@ -135,7 +135,7 @@ pub fn running(p: &[u8], src: &[usize], s: usize, m: usize) -> bool
     false
 }
 
-// Whether the event x stands at the head of the interruption i. Ruled out (must-fail/): the right part not looked at.
+// Whether the event x stands at the head of the interruption i.
 pub fn headed(p: &[u8], i: usize, x: usize) -> bool
     requires { ⌜ Nodes (now p) × (i < count (now p)) ⌝ }
     ensures { λ r. ⌜ r ≡ heads x (intr (now (p .entry)) i) ⌝ }
