@@ -1,5 +1,7 @@
 // Compiles a configuration file for the Basic edition. The file stands on standard input: prints `ok STATES BYTES` and a line with the table in hex, or
 // `refused NUMBER at PLACE`. One byte more than a file may have is read, so that a longer one is refused, whatever else it holds.
+#![tactic(auto)]
+
 use libc::{STDIN_FILENO, STDOUT_FILENO};
 
 fn main() {

@@ -1,5 +1,7 @@
 // The six public calls as a static library for boards and hosts (include/cart.h): a `&[u8]` is a pointer and a length in C, and the calls ask for nothing but
 // that these are right. Numbers and byte slices in, one plain struct out.
+#![tactic(auto)]
+
 ghost use Rattle.std.specs.Prelude.{◌≡◌};
 ghost use Rattle.paper.specs.Parse.{parse};
 ghost use Rattle.paper.specs.Refusals.{basic, adaptive};

@@ -1,6 +1,8 @@
 // The compiler of document 01, for either edition: a file's bytes to the bytes of its table. Any bytes of any length. The file is read (`reader`), its
 // states are discovered in the working slice (`discover`), and the table is written (`emit`) only where no number is left to refuse it, so that a
 // refusal leaves the output as it was. The working slice is zero after every call but No. 1.
+#![tactic(auto)]
+
 ghost use Rattle.std.specs.Prelude.{◌≡◌};
 ghost use Rattle.paper.specs.Parse.{parse};
 ghost use Rattle.paper.specs.File.{accepted};

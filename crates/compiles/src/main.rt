@@ -1,5 +1,7 @@
 // Compiles configuration files from standard input, many through one process. A frame is the file's length in two bytes, high first, and its bytes. Each
 // frame gets what the programs `basic` and `adaptive` print for that file, in this order. A frame that is cut short ends the run.
+#![tactic(auto)]
+
 ghost use Rattle.std.specs.Prelude.{◌≤◌, ◌<◌, length};
 
 use compiler::Compiled;

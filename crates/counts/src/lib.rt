@@ -1,4 +1,6 @@
 // The header of a table of layout 1: layout, counts and length, the first conditions of No. 19; and where its entries lie.
+#![tactic(auto)]
+
 ghost use Rattle.std.specs.Prelude.{◌≡◌, ◌≤◌, length};
 ghost use Rattle.layout.specs.Places.{place};
 ghost use Rattle.counts.specs.Counts.{Read, shape_says, in_limits};

@@ -1,5 +1,7 @@
 // Discovery: each state in turn, letter by letter. The states found lie in the working slice in the live coding (`slots`), so that the table and the live
 // engine share one reaction and one notion of equality. What each letter leads to is kept as a number, an entry of the table to be.
+#![tactic(auto)]
+
 ghost use Rattle.std.specs.Prelude.{◌≡◌, true, List, [], ◌∷◌, ℕ, ◌+◌, ◌*◌, ◌≤◌, ◌<◌, length, drop};
 ghost use Rattle.paper.specs.Lists.{has};
 ghost use Rattle.paper.specs.Rewriting.{occurrence};

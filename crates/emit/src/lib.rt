@@ -1,5 +1,7 @@
 // The bytes of a table from its parts: names, flags, and the entries that discovery left, each kept as one number. Nothing is refused here: callers
 // see to the room, the counts and the letters.
+#![tactic(auto)]
+
 ghost use Rattle.std.specs.Prelude.{◌≡◌, ℕ, ◌+◌, ◌-◌, ◌*◌, ◌≤◌, ◌<◌, ◌++◌, length, get_or, take, drop, replicate};
 ghost use Rattle.paper.specs.Lists.{gather};
 ghost use Rattle.paper.specs.Table.{Table, bits, written, flag as flag_of};

@@ -1,6 +1,8 @@
 // The live engine: start and step of document 01's Adaptive, on a file's bytes and the 128 bytes of a live state. Any bytes of any length, any letter.
 // The file is read anew at each call (`reader`); a state goes from bytes to a word and back (`unpack`, `pack`; docs/CODING.md has the layout), and one
 // reaction changes it (`react`). A refusal leaves the live bytes as they were.
+#![tactic(auto)]
+
 ghost use Rattle.std.specs.Prelude.{◌≡◌, false, [], ℕ, ◌<◌, length, get_or};
 ghost use Rattle.paper.specs.Lists.{has};
 ghost use Rattle.paper.specs.Parse.{parse};

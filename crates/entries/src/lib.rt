@@ -1,4 +1,6 @@
 // The entries of a table: next states, zeros and event bits, the conditions of No. 19 on them, in one pass.
+#![tactic(auto)]
+
 ghost use Rattle.std.specs.Prelude.{◌≡◌, not, ◌||◌, ◌+◌, ◌*◌, ◌≤◌, ◌<◌, length};
 ghost use Rattle.paper.specs.IsTable.{wrong_next, wrong_zeros, wrong_event};
 ghost use Rattle.counts.specs.Counts.{Counted};

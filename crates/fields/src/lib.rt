@@ -1,4 +1,6 @@
 // Packed fields, most significant bit first: bit 0 is the high bit of byte 0. Read through a window of eight bytes, written bit by bit.
+#![tactic(auto)]
+
 ghost use Rattle.std.specs.Prelude.{◌≡◌, ◌+◌, ◌*◌, ◌^◌, ◌≤◌, ◌<◌, length, get_or, set};
 ghost use Rattle.std.proofs.Math.Seq.{paste};
 ghost use Rattle.paper.specs.Table.{bits};

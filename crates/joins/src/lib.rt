@@ -1,5 +1,7 @@
 // Checks on the joins of a program, by passes over its nodes, which stand as `stars` says: a name on both sides of a `||` (No. 13 and 14), and a `||`
 // between interruptions (No. 16).
+#![tactic(auto)]
+
 ghost use Rattle.std.specs.Prelude.{◌≡◌, false, not, List, [], ℕ, ◌≤◌, length, take, get_or};
 ghost use Rattle.paper.specs.Grammar.{Sequence};
 ghost use Rattle.paper.specs.Limits.{shared_module, shared_event, braces_joined};

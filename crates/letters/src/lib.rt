@@ -1,4 +1,6 @@
 // The letters of a program: flags for the 26 of a kind, from a base on, 97 for modules and 65 for events; and the names in use, ascending.
+#![tactic(auto)]
+
 ghost use Rattle.std.specs.Prelude.{◌≡◌, Bool, true, false, ◌&&◌, ℕ, ◌+◌, ◌-◌, ◌≤◌, ◌<◌, length, drop, get_or};
 ghost use Rattle.std.proofs.Math.Option.{none};
 ghost use Rattle.paper.specs.Lists.{keep, below};

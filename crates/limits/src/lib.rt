@@ -1,5 +1,7 @@
 // The checks No. 9 to 16 of document 01 on a program that was read, in the order of their numbers: the first that finds a place refuses. All of them
 // run, which costs little and keeps the code straight. The checks themselves stand in `tokens`, `stars` and `joins`.
+#![tactic(auto)]
+
 ghost use Rattle.std.specs.Prelude.{◌≡◌, Bool, List, ℕ, ◌≤◌, length, drop};
 ghost use Rattle.std.proofs.Math.Seq.{slice};
 ghost use Rattle.paper.specs.Grammar.{Sequence};

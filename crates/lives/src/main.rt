@@ -1,6 +1,8 @@
 // Answers live calls from standard input, many through one process. A frame is a byte for the call (0 start, else step), the letter, a byte for the live
 // state's length, the file's length in two bytes, high first, the file, and the live state. Each frame gets one line: eight orders, or `refused NUMBER at
 // PLACE`, then a space and the bytes of the live state after the call, in hex. A frame that is cut short ends the run.
+#![tactic(auto)]
+
 ghost use Rattle.std.specs.Prelude.{◌≤◌, ◌<◌, length};
 
 use libc::{STDIN_FILENO, STDOUT_FILENO};

@@ -1,5 +1,7 @@
 // The table of a program's nodes, from the program in postorder, and the weight of each node beside it. The columns and kinds are those of `Nodes` (`laws`).
 // Each node is made through `make`, which adds one only where no equal one is there, so equal trees have equal numbers.
+#![tactic(auto)]
+
 ghost use Rattle.std.specs.Prelude.{◌+◌, ◌<◌, ◌≤◌, max, ◌≡◌, length, replicate};
 ghost use Rattle.laws.specs.Nodes.{count};
 ghost use Rattle.nodes.specs.Made.{is, find, make, code_kind, node};

@@ -1,5 +1,7 @@
 // The live state's 128 bytes from a state as the engine holds it: a word in 96 places, a memory, a flag for each module. And the word of the
 // program's term, which a state starts with. Nothing is refused here: callers see to the table, the word and the room.
+#![tactic(auto)]
+
 ghost use Rattle.std.specs.Prelude.{◌≡◌, ◌+◌, ◌-◌, ◌*◌, ◌/◌, ◌≤◌, ◌<◌, length, drop, get_or};
 ghost use Rattle.paper.specs.Term.{still};
 ghost use Rattle.paper.specs.Reaction.{Program};

@@ -1,5 +1,7 @@
 // How many parts the term of a word has, as No. 18 counts them: "each name or `1`, each join (sequence too), `/`, `:` and star". Counted up to 8,193, which
 // is one too many, so no sum overflows. Nothing is refused here: callers see to the table and the word.
+#![tactic(auto)]
+
 ghost use Rattle.std.specs.Prelude.{◌+◌, ◌≤◌, ◌≡◌, length};
 ghost use Rattle.paper.specs.Refusals.{parts_of};
 ghost use Rattle.words.specs.Word.{mark};

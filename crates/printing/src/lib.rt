@@ -1,4 +1,6 @@
 // What the two programs print for what a compile answered, as bytes in a lent slice: a program is one read, one compile, one text and one write.
+#![tactic(auto)]
+
 ghost use Rattle.std.specs.Prelude.{◌≡◌, [], ◌∷◌, ◌+◌, ◌*◌, ◌≤◌, ◌<◌, length, take};
 ghost use Rattle.paper.specs.Programs.{decimal, hex_digit, hex, ok_text, refused_text};
 ghost use Rattle.printing.specs.Lines.{Put, answer, fits, Printed};

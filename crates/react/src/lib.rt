@@ -1,6 +1,8 @@
 // One reaction on a state: its word and memory after a letter, the stopped set after it, and the order to each module.
 // The stopped set is a flag for each of the program's modules, in their order. Nothing is refused here: callers ask `possible` first, and see to
 // the table, the word and the room.
+#![tactic(auto)]
+
 ghost use Rattle.std.specs.Prelude.{◌≡◌, ℕ, ◌<◌};
 ghost use Rattle.paper.specs.Running.{runs_l};
 ghost use Rattle.paper.specs.Rewriting.{completion};

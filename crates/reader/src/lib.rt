@@ -1,5 +1,7 @@
 // The reader of configuration files: file bytes in; a program as nodes out, or a number and a place. Refusals 2 to 14 of document 01, and for Basic 15 and 16.
 // Lines and lists are read by `text`, the program's text by `syntax`; `limits` has the checks 9 to 16, and `nodes` makes the table.
+#![tactic(auto)]
+
 ghost use Rattle.std.specs.Prelude.{◌≡◌, List, ℕ, ◌≤◌, length, replicate};
 ghost use Rattle.paper.specs.Parse.{parse};
 ghost use Rattle.paper.specs.Refusals.{reading, program_of};

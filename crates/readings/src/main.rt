@@ -1,6 +1,8 @@
 // Reads configuration files from standard input, many through one process. A frame is the file's length in two bytes, high first, and its bytes. Each
 // frame gets two lines, for Basic and for Adaptive: `refused NUMBER at PLACE`, or `read`, the modules, the events, the fugitive ones (`-` for none), and
 // the program's nodes in postorder. A frame that is cut short ends the run.
+#![tactic(auto)]
+
 ghost use Rattle.std.specs.Prelude.{◌≤◌, ◌<◌, length};
 
 use letters::Names;

@@ -1,5 +1,7 @@
 // A letter on a state's word and memory: completion and taking by one rule, settling, and what an occurrence does; and the order to a module.
 // One word is read and another written in front of what is there. Nothing is refused: callers see to the table, the places and the room.
+#![tactic(auto)]
+
 ghost use Rattle.std.specs.Prelude.{◌≡◌, [], ◌∷◌, ◌++◌, false, ℕ, ◌+◌, ◌≤◌, ◌<◌, length, drop};
 ghost use Rattle.paper.specs.Term.{One, Act};
 ghost use Rattle.paper.specs.Lists.{has};

@@ -2,6 +2,8 @@
 // 1,536 numbers in three columns of 512: the hash of the i-th state at i; at 512 + i the link to the last state before it of the same bucket; at 1,024 + k
 // the last state of bucket k. A link is the state's number plus one, 0 for none. Two states are the same where their bytes are; the index only spares
 // comparisons. Nothing is refused here: where 512 states stand already a new one is not put, and its number is 512.
+#![tactic(auto)]
+
 ghost use Rattle.std.specs.Prelude.{◌≡◌, List, ℕ, ◌+◌, ◌*◌, ◌≤◌, ◌<◌, length, take, drop};
 ghost use Rattle.std.proofs.Math.Seq.{paste};
 ghost use Rattle.paper.specs.Lists.{eq_l};

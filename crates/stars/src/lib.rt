@@ -1,5 +1,7 @@
 // Passes over the nodes of a program, as the reader wrote them, and No. 9's stars by one. `code`, `left` and `place` have the nodes in their first n
 // places, each after its parts, so a node's right or only part stands just before it, and `left` says where a join's left part stands.
+#![tactic(auto)]
+
 ghost use Rattle.std.specs.Prelude.{◌≡◌, Bool, cond, ℕ, ◌+◌, ◌-◌, ◌≤◌, ◌<◌, min, max, length};
 ghost use Rattle.paper.specs.Grammar.{Sequence};
 ghost use Rattle.paper.specs.Limits.{too_starred};

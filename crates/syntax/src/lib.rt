@@ -1,5 +1,7 @@
 // The reader of a program's text: a reader for each production of the grammar, which call each other in a cycle. They write the program's tree
 // into three lent slices, node by node in postorder: `code`, beside it in `left` the place of each join's left part, in `place` its place in the file.
+#![tactic(auto)]
+
 ghost use Rattle.std.specs.Prelude.{true, false, ◌&&◌, not, ◌≡◌, ◌+◌, ◌≤◌, ◌<◌, get_or, length, replicate, eqb};
 ghost use Rattle.paper.specs.Bytes.{is_event, open_mark, brace_mark, bar_mark};
 ghost use Rattle.paper.specs.Grammar.{join_text};

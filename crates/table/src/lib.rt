@@ -1,4 +1,6 @@
 // Tables of layout 1: what start and step answer, for any bytes. Nothing of a table is copied. `valid` has the check of No. 19.
+#![tactic(auto)]
+
 ghost use Rattle.std.specs.Prelude.{◌≡◌, true, ◌+◌, ◌*◌, ◌≤◌, ◌<◌, length, get_or};
 ghost use Rattle.paper.specs.Calls.{eight, not_stepped, table_start, table_step, index_from, letter_bytes, entered};
 ghost use Rattle.paper.specs.IsTable.{table_modules, table_events, is_table};

@@ -1,6 +1,8 @@
 // Answers tables from standard input, many through one process. A frame is a byte for the call (0 start, else step), the state in two bytes, high
 // first, the letter, the table's length in two bytes, high first, and the table. Each frame gets one line: `refused NUMBER`, or `state` with its
 // number and eight orders. A frame that is cut short ends the run.
+#![tactic(auto)]
+
 ghost use Rattle.std.specs.Prelude.{◌≤◌, ◌<◌, length};
 
 use libc::{STDIN_FILENO, STDOUT_FILENO};

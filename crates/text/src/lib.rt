@@ -1,4 +1,6 @@
 // From the bytes of a file to its lines, keys and event lists: refusals 2 to 7 of document 01.
+#![tactic(auto)]
+
 pub mod kinds;
 
 ghost use Rattle.std.specs.Prelude.{◌≡◌, ◌≤◌, ◌<◌, length};

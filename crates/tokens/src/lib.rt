@@ -1,5 +1,7 @@
 // Checks on the text of a program, byte by byte: tokens and brackets (No. 9), letters (No. 10 to 12). `s` is the file up to the end of the program line,
 // and the program's value begins at the place `at`.
+#![tactic(auto)]
+
 ghost use Rattle.std.specs.Prelude.{◌≡◌, Bool, true, false, not, ◌&&◌, List, ◌++◌, ℕ, ◌+◌, ◌≤◌, ◌<◌, eqb, leb, length, drop, get_or};
 ghost use Rattle.std.proofs.Math.Seq.{slice};
 ghost use Rattle.paper.specs.Bytes.{bar_mark, is_module, is_event};

@@ -2,6 +2,8 @@
 // then a line for each letter, with `+` for start, `~` for resume or `-` for stop before each module that has an order, or `refused NUMBER`. A file that is
 // not accepted prints `refused NUMBER at PLACE` alone. Without an argument it does the same for many runs through one process: a frame is the file's length
 // in two bytes, high first, its bytes, the number of letters in two bytes and the letters. A frame that is cut short ends it.
+#![tactic(auto)]
+
 ghost use Rattle.std.specs.Prelude.{◌≤◌, ◌<◌, length};
 
 use libc::{STDIN_FILENO, STDOUT_FILENO};

@@ -1,5 +1,7 @@
 // From the live state's 128 bytes to a state: a word of units, a memory and a flag for each module; or No. 23. Each byte is looked at, and what is
 // taken is exactly what the coding decodes. Nothing else is refused here: callers see to the table, the letters and the lengths.
+#![tactic(auto)]
+
 ghost use Rattle.std.specs.Prelude.{◌≡◌, cond, false, ℕ, ◌+◌, ◌-◌, ◌*◌, ◌/◌, ◌%◌, ◌^◌, ◌≤◌, ◌<◌, ltb, length, drop, get_or};
 ghost use Rattle.paper.specs.Lists.{has};
 ghost use Rattle.paper.specs.Reaction.{Program};

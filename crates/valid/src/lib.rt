@@ -1,4 +1,6 @@
 // Is it a table: No. 19, for any bytes. `counts` has the header and `entries` the entries; the names, the start bits and the padding stand here.
+#![tactic(auto)]
+
 ghost use Rattle.std.specs.Prelude.{◌≡◌, not, ◌+◌, ◌*◌, ◌≤◌, length};
 ghost use Rattle.paper.specs.IsTable.{ascend, wrong_name, wrong_start, wrong_padding};
 ghost use Rattle.counts.specs.Counts.{Counted};

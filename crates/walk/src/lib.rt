@@ -1,5 +1,7 @@
 // Whether a word of units is a state's: one pass from its end, with the weights of the terms that are there so far.
 // What a unit weighs is answered as a number, and 97 stands for a unit that may not stand where it does.
+#![tactic(auto)]
+
 ghost use Rattle.std.specs.Prelude.{◌≡◌, List, ℕ, ◌+◌, ◌-◌, ◌≤◌, ◌<◌, max, length, drop, get_or};
 ghost use Rattle.paper.specs.Lists.{has};
 ghost use Rattle.laws.specs.Nodes.{tree};

@@ -1,6 +1,8 @@
 // Words of units over a table of nodes: a state's term as the walk of what runs in it, in prefix order.
 // The table is 768 bytes, four columns of 192 nodes. A word is written in front of what is there, from the right, its root's unit last; so
 // nothing is moved or undone. Nothing is refused here: callers see to the table, the places and the room.
+#![tactic(auto)]
+
 ghost use Rattle.std.specs.Prelude.{◌≡◌, ◌∷◌, ◌+◌, ◌-◌, ◌≤◌, ◌<◌, length, take, drop, get_or};
 ghost use Rattle.paper.specs.Running.{heads};
 ghost use Rattle.laws.specs.Nodes.{Nodes, count, tree, intr};
