@@ -11,7 +11,7 @@ ghost use Rattle.cart.specs.Outcome.{compiles, outcome, lived};
 
 // Number and place of a refusal, all else zero; or number 0, how many states the table has and how many bytes.
 #[repr(C)]
-#[derive(Drop)]
+#[derive(Clone, Copy)]
 pub struct CompileAnswer {
     pub number: usize,
     pub place: usize,
@@ -21,7 +21,7 @@ pub struct CompileAnswer {
 
 // Number and place of a refusal, all else zero; or number 0, the state and one order for each module, zeros up to eight.
 #[repr(C)]
-#[derive(Drop)]
+#[derive(Clone, Copy)]
 pub struct TableAnswer {
     pub number: usize,
     pub place: usize,
@@ -31,7 +31,7 @@ pub struct TableAnswer {
 
 // Number and place of a refusal, all else zero; or number 0 and one order for each module, zeros up to eight.
 #[repr(C)]
-#[derive(Drop)]
+#[derive(Clone, Copy)]
 pub struct LiveAnswer {
     pub number: usize,
     pub place: usize,

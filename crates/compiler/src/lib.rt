@@ -20,7 +20,7 @@ use nodes::clear;
 use reader::{Program as Given, Verdict, read};
 
 // Number and place of a refusal, or number 0; how many states, and how many bytes the table has, at the front of the output.
-#[derive(Drop)]
+#[derive(Clone, Copy)]
 pub struct Compiled {
     pub number: usize,
     pub place: usize,

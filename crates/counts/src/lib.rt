@@ -6,7 +6,7 @@ ghost use Rattle.layout.specs.Places.{place};
 ghost use Rattle.counts.specs.Counts.{Read, shape_says, in_limits};
 
 // How many there are.
-#[derive(Drop)]
+#[derive(Clone, Copy)]
 pub struct Counts {
     pub modules: usize,
     pub events: usize,
@@ -14,7 +14,7 @@ pub struct Counts {
 }
 
 // What a header says, where it is one.
-#[derive(Drop)]
+#[derive(Clone, Copy)]
 pub enum Shape {
     Wrong,
     Right(Counts),

@@ -25,7 +25,7 @@ use unpack::unpack;
 use words::event_armed;
 
 // Where one letter led: whether to one state too many, how many there are then, and the entry.
-#[derive(Drop)]
+#[derive(Clone, Copy)]
 pub struct Arrived {
     pub over: bool,
     pub count: usize,
@@ -33,7 +33,7 @@ pub struct Arrived {
 }
 
 // What a state's turn left: whether there were too many states, whether its term has too many parts, how many states there are then.
-#[derive(Drop)]
+#[derive(Clone, Copy)]
 pub struct Turned {
     pub over: bool,
     pub large: bool,
@@ -41,7 +41,7 @@ pub struct Turned {
 }
 
 // What discovery found: more than 512 states, or a term of too many parts, or how many states; and the modules that run at the start.
-#[derive(Drop)]
+#[derive(Clone, Copy)]
 pub struct Found {
     pub over: bool,
     pub large: bool,

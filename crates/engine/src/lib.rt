@@ -23,7 +23,7 @@ use text::kinds::{is_event, is_module};
 use unpack::unpack;
 
 // Number and place of a refusal, or number 0; and one order for each module, ascending, zeros behind: 0 none, 1 start, 2 resume, 3 stop.
-#[derive(Drop)]
+#[derive(Clone, Copy)]
 pub struct Answer {
     pub number: usize,
     pub place: usize,
@@ -31,7 +31,7 @@ pub struct Answer {
 }
 
 // A letter of the program, or none.
-#[derive(Drop)]
+#[derive(Clone, Copy)]
 enum Known {
     Foreign,
     Own(Letter),

@@ -73,7 +73,7 @@ pub fn get(s: &[u8], bit: usize, width: usize) -> usize
 }
 
 // A packed-field reader: a table and a place in it.
-#[derive(Drop)]
+#[derive(Clone, Copy)]
 pub struct FieldReader<'a> {
     pub table: &'a [u8],
     pub bit: usize,

@@ -9,7 +9,7 @@ ghost use Rattle.paper.specs.Limits as limits;
 ghost use Rattle.letters.specs.Letters.{is_letter, flag_of, marked, TellsFrom, names_of};
 
 // Where a check refuses, or that it does not.
-#[derive(Drop)]
+#[derive(Clone, Copy)]
 pub enum Found {
     At(usize),
     Nothing,
@@ -60,7 +60,7 @@ pub fn used(s: &[u8], at: usize, base: u8) -> [bool; 26]
 }
 
 // The names of a program: letters are numbers from 0, so a and A are 0. At most eight; zeros beyond the count.
-#[derive(Drop)]
+#[derive(Clone, Copy)]
 pub struct Names {
     pub letters: [u8; 8],
     pub count: usize,

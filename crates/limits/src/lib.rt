@@ -19,7 +19,7 @@ use stars::too_starred;
 use tokens::{ninth_event, ninth_module, over_96, too_deep, unlisted, unused};
 
 // Number and place of a refusal, or none.
-#[derive(Drop)]
+#[derive(Clone, Copy)]
 pub enum Checked {
     Refused { number: u8, place: usize },
     Fine,
@@ -63,7 +63,7 @@ pub fn within_limits(
 }
 
 // The two event lists of a file, as parts of it, the earlier first (an empty part where there is none), and which letters are listed and fugitive.
-#[derive(Drop)]
+#[derive(Clone, Copy)]
 pub struct Lists {
     pub from: usize,
     pub to: usize,

@@ -14,7 +14,7 @@ ghost use Rattle.react.specs.States.{Modules, state_of, flags_of, Running, Told,
 use rewrite::{Letter, Memory};
 
 // What a reaction leaves: where the word starts, the memory, the stopped set, and the orders.
-#[derive(Drop)]
+#[derive(Clone, Copy)]
 pub struct Reacted {
     pub start: usize,
     pub memory: Memory,
@@ -23,7 +23,7 @@ pub struct Reacted {
 }
 
 // The order to each module, and the stopped set afterwards.
-#[derive(Drop)]
+#[derive(Clone, Copy)]
 pub struct Ordered {
     pub orders: [u8; 8],
     pub stopped: [u8; 8],

@@ -24,14 +24,14 @@ use syntax::{Got, read_program};
 use text::{Lines, Reading, read_lines};
 
 // Number and place of a refusal, or none.
-#[derive(Drop)]
+#[derive(Clone, Copy)]
 pub enum Verdict {
     Refused { number: usize, place: usize },
     Accepted,
 }
 
 // What is read of a file beside the nodes: the root's number, the names ascending, and which events are fugitive, by letter. All zero in a refusal.
-#[derive(Drop)]
+#[derive(Clone, Copy)]
 pub struct Program {
     pub verdict: Verdict,
     pub root: usize,

@@ -16,7 +16,7 @@ ghost use Rattle.rewrite.specs.Steps.{letter_of, Works, Hits, room_i, SeqOn, Sta
 ghost use Rattle.rewrite.specs.Stored.{stored, lead, removed, Rests};
 
 // A completion of a module, or an occurrence of an event.
-#[derive(Drop)]
+#[derive(Clone, Copy)]
 pub enum Letter {
     Completion(usize),
     Occurrence(usize),
@@ -220,7 +220,7 @@ pub fn rewrite_state(
 }
 
 // The stored events, oldest first: the first count of the eight places.
-#[derive(Drop)]
+#[derive(Clone, Copy)]
 pub struct Memory {
     pub events: [usize; 8],
     pub count: usize,
@@ -275,7 +275,7 @@ pub fn store(memory: Memory, e: usize) -> Memory
 }
 
 // Where a settled state's word starts, and its memory.
-#[derive(Drop)]
+#[derive(Clone, Copy)]
 pub struct Settled {
     pub start: usize,
     pub memory: Memory,

@@ -10,7 +10,7 @@ ghost use Rattle.paper.specs.Lists.{eq_l};
 ghost use Rattle.slots.specs.Slots.{mix, four_at, fours_of, hash_of, number_in, Holds, Enrolls};
 
 // The number of a state, and how many states there are now.
-#[derive(Drop)]
+#[derive(Clone, Copy)]
 pub struct Enrolled {
     pub number: usize,
     pub count: usize,

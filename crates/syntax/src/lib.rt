@@ -11,7 +11,7 @@ ghost use Rattle.syntax.specs.Readers.{is_leaf, starts, join_of, sequence_s, ite
 ghost use Rattle.syntax.specs.Outcome.{TextSays, Outcome};
 
 // The place behind what was read and the next free place for a node; or the first place at which nothing fits.
-#[derive(Drop)]
+#[derive(Clone, Copy)]
 pub enum Got {
     At { next: usize, free: usize },
     Bad(usize),

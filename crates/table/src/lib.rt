@@ -11,7 +11,7 @@ use counts::{Counts, Shape, entry_place};
 use valid::checked;
 
 // What start and step answer: number and place, or the state and an order for each module.
-#[derive(Drop)]
+#[derive(Clone, Copy)]
 pub struct Answer {
     pub number: usize,
     pub place: usize,
@@ -20,7 +20,7 @@ pub struct Answer {
 }
 
 // What a table says: a refusal, or the state with the place, the width and the count of its orders.
-#[derive(Drop)]
+#[derive(Clone, Copy)]
 pub enum Found {
     NotTable,
     NoState,
@@ -35,7 +35,7 @@ pub enum Found {
 }
 
 // Where a letter stands among the table's.
-#[derive(Drop)]
+#[derive(Clone, Copy)]
 pub enum Index {
     Nowhere,
     At(usize),

@@ -11,7 +11,7 @@ ghost use Rattle.text.specs.Spans.{no_lines, Answers};
 ghost use Rattle.text.specs.Steps.{Finds, Cuts, key_meant, Lists, Kept, Fresh, Enters, Steps};
 
 // A line that was read: where it begins, where its value begins, and the place of its line end. All zeros where there is none.
-#[derive(Drop)]
+#[derive(Clone, Copy)]
 pub struct Span {
     pub there: bool,
     pub line: usize,
@@ -20,7 +20,7 @@ pub struct Span {
 }
 
 // The lines of a file, each at most once.
-#[derive(Drop)]
+#[derive(Clone, Copy)]
 pub struct Lines {
     pub standard: Span,
     pub fugitive: Span,
@@ -28,20 +28,20 @@ pub struct Lines {
 }
 
 // The lines that were read, or number and place.
-#[derive(Drop)]
+#[derive(Clone, Copy)]
 pub enum Reading {
     Refused { number: usize, place: usize },
     Read(Lines),
 }
 
 // A line, cut at its first space and at its end; broken where one of them is missing or nothing stands between them.
-#[derive(Drop)]
+#[derive(Clone, Copy)]
 enum Cut {
     Broken,
     Parts { space: usize, end: usize },
 }
 
-#[derive(Drop)]
+#[derive(Clone, Copy)]
 enum Key {
     Standard,
     Fugitive,
@@ -50,14 +50,14 @@ enum Key {
 }
 
 // An event list: the place of a wrong letter, or all are fine.
-#[derive(Drop)]
+#[derive(Clone, Copy)]
 enum Listing {
     Wrong(usize),
     Fine,
 }
 
 // One line more: what was read with it and where the next line begins, or number and place.
-#[derive(Drop)]
+#[derive(Clone, Copy)]
 enum Step {
     Stop { number: usize, place: usize },
     Next { lines: Lines, next: usize },

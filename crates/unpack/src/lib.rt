@@ -13,7 +13,7 @@ ghost use Rattle.unpack.specs.Unpacking.{Given, Of, Shaped, Leads, Limited, Reme
 use rewrite::Memory;
 
 // What the bytes say, if they are the code of a state: where its word starts, the memory, and the stopped set.
-#[derive(Drop)]
+#[derive(Clone, Copy)]
 pub struct Unpacked {
     pub found: bool,
     pub start: usize,
@@ -22,7 +22,7 @@ pub struct Unpacked {
 }
 
 // The low bits of a number, and the rest of it.
-#[derive(Drop)]
+#[derive(Clone, Copy)]
 pub struct Bits {
     pub flags: [u8; 8],
     pub rest: usize,

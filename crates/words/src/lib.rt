@@ -10,7 +10,7 @@ ghost use Rattle.words.specs.Word.{Right, mark, terms, any_runs, any_armed, arms
 ghost use Rattle.words.specs.Pieces.{Cols, Put, Faced, Asks, Drawn, Src, Past, Agree};
 
 // A node's four columns.
-#[derive(Drop)]
+#[derive(Clone, Copy)]
 pub struct Columns {
     pub kind: usize,
     pub left: usize,
