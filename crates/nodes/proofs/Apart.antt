@@ -1,7 +1,7 @@
 -- Nodes whose columns differ have different trees, and nodes that are added keep the trees of those that are there.
 -- A tree shows the kind of its node, and by its kind its letter and the trees of its parts (`same-term`); and these make up the tree (`term-same`).
 -- So both go by the sorts of a node's parts, from the lower nodes to the higher. Assumes nothing.
-use Prim.Native.Nat.{ℕ, zero, suc, ◌-◌, ◌≤◌, ◌<◌}
+use Prim.Native.Nat.{ℕ, zero, suc, ◌≤◌, ◌<◌}
 use mathlib.Core.Bool.{Bool, true, false}
 use mathlib.Core.List.{List}
 use mathlib.Core.Path.{◌≡◌, refl, sym, ap, ◌∙◌}

@@ -2,7 +2,7 @@
 -- first i places have been made as the tree is. Assumes nothing.
 --     Going code left n P number z i        before place i the table is P, the nodes made so far are in `number`, the last of them is z
 --     going_start, going_next, going_end    at the first place, one place on, behind the last
-use Prim.Native.Nat.{ℕ, ◌+◌, ◌-◌, ◌≤◌, ◌<◌}
+use Prim.Native.Nat.{ℕ, ◌+◌, ◌≤◌, ◌<◌}
 use mathlib.Core.List.{List, [], ◌∷◌, ◌++◌}
 use mathlib.Core.Path.{◌≡◌, refl, sym, ◌∙◌}
 use native.Mathlib.Omega.{arith}

@@ -3,7 +3,7 @@
 --     Root P r n x          P is such a table of at most n + 1 nodes, in which r is the root, of the term x
 --     made-root             so is what a program makes that has at most 189 places
 --     size_below            as has a program within 96 tokens
-use Prim.Native.Nat.{ℕ, ◌+◌, ◌-◌, ◌*◌, ◌≤◌, ◌<◌}
+use Prim.Native.Nat.{ℕ, ◌+◌, ◌*◌, ◌≤◌, ◌<◌}
 use mathlib.Core.List.{List}
 use mathlib.Core.Path.{◌≡◌, refl, ◌∙◌}
 use native.Mathlib.Omega.{arith}

@@ -6,7 +6,7 @@
 --     means-S               the placed tree of a program means its term
 -- Assumes nothing.
 use Prim.Native.Nat.{ℕ, ◌+◌, ◌<◌}
-use lib.Dec.{ltb, ltb→lt}
+use lib.Dec.{ltb→lt}
 use Rattle.paper.specs.Bytes.{one_mark, slash_mark, colon_mark, bar_mark}
 use Rattle.paper.specs.Grammar.{Join, bar, bars, Sequence, Item, Starred, Atom, Body, Interruption, Chain, only, then, plain, until, once, again, named, never, group, single, beside, event, treated, braces, last, next}
 use Rattle.paper.specs.Term.{Term, Intr, Mod, One, Seq, Par, Star, Act, Event, Treat, Either, Both, joined, term_s, term_i, term_t, term_a, term_b, term_n, term_c}

@@ -1,6 +1,6 @@
 -- What `make` does to a table: it stays one, has the nodes it had, and the node answered has the columns asked for.
 -- Found, the node is there; else none has these columns (`find_none`), so the new node is unlike all others. Assumes nothing.
-use Prim.Native.Nat.{ℕ, ◌+◌, ◌-◌, ◌≤◌, ◌<◌}
+use Prim.Native.Nat.{ℕ, ◌+◌, ◌≤◌, ◌<◌}
 use mathlib.Core.Bool.{Bool, true, false, cond}
 use mathlib.Core.List.{List}
 use mathlib.Core.Path.{◌≡◌, refl, sym, ap, ◌∙◌}

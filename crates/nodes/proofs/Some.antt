@@ -1,6 +1,6 @@
 -- What is asked can be met: the program `a/E.`, its postorder and its table, by computation; and in `aa.` the two equal parts are one node.
 -- Assumes nothing.
-use Prim.Native.Nat.{ℕ, ◌+◌}
+use Prim.Native.Nat.{ℕ}
 use mathlib.Core.List.{List, ◌∷◌, ◌++◌}
 use mathlib.Core.Path.{◌≡◌, refl}
 use native.Mathlib.Omega.{arith}

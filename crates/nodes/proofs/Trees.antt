@@ -1,7 +1,7 @@
 -- The tree of a node by its columns. The parts of a node stand below it, so its own number is fuel enough for each of them.
 --     tree_is P ns i        the term of node i, by its columns and the trees of its parts; `intr-is` the interruption
 -- Assumes nothing.
-use Prim.Native.Nat.{ℕ, zero, suc, ◌-◌, ◌≤◌}
+use Prim.Native.Nat.{ℕ, zero, suc, ◌≤◌}
 use mathlib.Core.List.{List}
 use mathlib.Core.Path.{◌≡◌, refl}
 use native.Mathlib.Omega.{arith}
