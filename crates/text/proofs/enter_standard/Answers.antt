@@ -1,0 +1,21 @@
+-- `text::enter_standard` meets its contract, by the laws of `Entering`. Assumes nothing.
+use Rattle.paper.specs.File.{standard_key}
+use Rattle.text.proofs.Entering.{enters-twice, standard-wrong, enters-standard}
+use Rattle.text.proofs.enter_standard.Goals as goal
+
+pub returns-then-old : goal.returns-then-old
+returns-then-old c =
+    let a = c.args in
+    enters-twice a.file.now a.v a.lines standard_key c.if-old.true
+
+pub returns-in-Wrong : goal.returns-in-Wrong
+returns-in-Wrong c =
+    let a = c.args in
+    standard-wrong a.file.now a.v a.lines a.seen.now c.list-r.new.seen c.requires.1.marks c.in-Wrong.place c.in-Wrong.ensures
+    c.if-old.false
+
+pub returns-in-Fine : goal.returns-in-Fine
+returns-in-Fine c =
+    let a = c.args in
+    enters-standard a.file.now a.v a.lines a.seen.now c.requires.0 c.requires.1 c.list-r.new.seen c.in-Fine.ensures
+    c.if-old.false
