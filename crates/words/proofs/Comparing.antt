@@ -7,7 +7,6 @@ use native.Mathlib.Numerals.{add-one}
 use native.Mathlib.Omega.{arith}
 use lib.ListN.{get_or, length, take, drop, length-drop, length-take}
 use lib.Seq.{get_or-drop, get_or-take, take-suc}
-use Rattle.laws.specs.Weight.{weight}
 
 module _ (x y : List ℕ) (a z b e : ℕ) (ok : ((a ≤ z) × (z ≤ length x)) × ((b ≤ e) × (e ≤ length y))) where
   abbrev old : List ℕ

@@ -8,7 +8,6 @@ use native.Mathlib.Nat.{pos_of_ne-zero}
 use native.Mathlib.Omega.{arith}
 use Rattle.paper.specs.Term.{Term, Intr, Mod, One, Seq, Par, Star, Act, Event, Treat, Either, Both}
 use Rattle.laws.specs.Nodes.{Nodes, Apart, kind, left, right, letter, count, tree, intr}
-use Rattle.words.specs.Word.{terms}
 use Rattle.words.proofs.Marks.{by-lt}
 use Rattle.words.proofs.Trees.{tree-seq, tree-par, tree-star, tree-act, tree-mod, tree-one, intr-treat, intr-either, intr-both, intr-event}
 

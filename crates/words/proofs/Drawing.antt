@@ -11,7 +11,7 @@ use Rattle.paper.specs.Term.{Term, Intr, Mod, One, Seq, Par, Star, Act}
 use Rattle.laws.specs.Nodes.{kind, left, right, count, tree, intr}
 use Rattle.laws.specs.Weight.{weight, room}
 use Rattle.words.specs.Word.{u_seq, u_star, u_mod, mark, apply, Fine, Holds}
-use Rattle.words.specs.Pieces.{Cols, Put, Faced, Asks, Drawn, top}
+use Rattle.words.specs.Pieces.{Cols, Put, Faced, Asks, Drawn}
 use Rattle.words.proofs.Marks.{mark-seq, mark-star, mark-one, mark-par, mark-mod}
 use Rattle.words.proofs.Trees.{tree-seq, tree-par, tree-star, tree-act, tree-mod, tree-one}
 use Rattle.words.proofs.Holding.{nothing, front, joined, faced, one-there}

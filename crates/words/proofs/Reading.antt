@@ -11,7 +11,6 @@ use lib.ListN.{get_or, length, take, drop, length-append, length-drop}
 use lib.Seq.{drop-cons}
 use borrow.Author.Tests.{lt-ltb, le-ltb, ne_eqb}
 use Rattle.paper.specs.Term.{Term}
-use Rattle.laws.specs.Nodes.{right}
 use Rattle.words.specs.Word.{Mark, u_seq, u_star, u_act, u_wait, u_one, u_par, u_mod, mark, hd, tl, apply, terms, Fine, Right, Holds}
 use Rattle.words.specs.Pieces.{Src, top, Past}
 use Rattle.words.proofs.Determined.{tl-long}
