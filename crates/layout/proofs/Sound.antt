@@ -11,7 +11,7 @@ use lib.ListN.{length, get_or, drop, replicate, get_or-append}
 use lib.Seq.{get_or-append-add, drop_at}
 use Rattle.paper.specs.Lists.{every}
 use Rattle.paper.specs.Table.{Table, flag, table_bits, written}
-use Rattle.paper.specs.IsTable.{bits_of, number_from, layout, module_count, event_count, state_count, letter_count, bit_count, name_at, start_at, possible_at, next_at, order_at, ascend, zeros, wrong_count, wrong_length, wrong_name, wrong_next, wrong_zeros, wrong_event, wrong_start, wrong_padding, is_table}
+use Rattle.paper.specs.IsTable.{bits_of, number_from, module_count, event_count, state_count, letter_count, bit_count, name_at, start_at, possible_at, next_at, order_at, ascend, zeros, wrong_count, wrong_length, wrong_name, wrong_next, wrong_zeros, wrong_event, wrong_start, wrong_padding, is_table}
 use Rattle.fields.proofs.Packed.{number-zeros}
 use Rattle.layout.specs.Places.{place}
 use Rattle.layout.specs.InRange.{letter_count_of, entry_at, Ascending, InRange}
