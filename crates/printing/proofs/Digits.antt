@@ -11,7 +11,7 @@ use borrow.Author.Tests.{lt-ltb, le-ltb, ltb-true, ltb-false}
 use lib.Dec.{ltb}
 use lib.ListN.{length, take, get_or, length-append}
 use lib.Seq.{take-suc, length-take-le}
-use Rattle.paper.specs.Lists.{choose, gather}
+use Rattle.paper.specs.Lists.{gather}
 use Rattle.paper.specs.Programs.{digits, decimal, hex_digit, hex}
 use Rattle.printing.specs.Lines.{Put}
 use Rattle.printing.proofs.Puts.{put-none, put_then}

@@ -1,0 +1,9 @@
+-- `printing::hex_digit` meets its contract: the test is that of `hex_digit`. Assumes nothing.
+use borrow.Author.Tests.{lt-ltb, le-ltb}
+use Rattle.printing.proofs.hex_digit.Goals as goal
+
+pub returns-then-n-lt10 : goal.returns-then-n-lt10
+returns-then-n-lt10 c = rw (lt-ltb c.args.n 10 c.if-n-lt10.true)
+
+pub returns-else-n-lt10 : goal.returns-else-n-lt10
+returns-else-n-lt10 c = rw (le-ltb c.args.n 10 c.if-n-lt10.false)
