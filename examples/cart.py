@@ -1,7 +1,7 @@
 #!/usr/bin/env python3
 """Cart dispatch from Python, by ctypes: the library as a shared object, made from libcart.a by a linker alone.
 
-    ld -shared --whole-archive target/staticlib/libcart.a -o libcart.so
+    ld -shared --whole-archive crates/cart/out/libcart.a -o libcart.so
     cart.py libcart.so FILE [LETTERS]
 
 As a module: `Cart(path)` has `compile`, `table_start`, `table_step`, `live_start` and `live_step`; a refusal is raised as `Refused`. As a command it
