@@ -23,10 +23,25 @@ Every public function, and the definitions that its contract cites, as `crate` `
 |---|---|---|---|
 """
 
-FUNCTION = re.compile(r'^pub (?:extern "C" )?fn (\w+)(.*?)^\{', re.M | re.S)
-CLAUSE = re.compile(r"^    (requires|ensures) \{(.*?)⌝ \}$", re.M | re.S)
+CRATES = [line.split(":")[0].split()[0] for line in (TOP / "crates.txt").read_text().splitlines() if line.strip() and not line.startswith("#")]
+
+# A function's head ends where its body begins, or where that ends if the head has no contract.
+FUNCTION = re.compile(r'^pub (?:extern "C" )?fn (\w+)(.*?)^[{}]', re.M | re.S)
+CLAUSE = re.compile(r"^    (requires|ensures)\b[^{\n]*\{", re.M)
 IMPORT = re.compile(r"^ghost use ([^;{]*?)(?:\.\{(.*?)\}| as (\S+));", re.M | re.S)
-NAME = re.compile(r"(?<![\w.])[A-Za-zα-ωΑ-Ω][\w′₀-₉-]*(?:\.[A-Za-z][\w-]*)?")
+NAME = re.compile(r"(?<![\w.])[A-Za-zα-ωΑ-Ω][\w'₀-₉-]*(?:\.[A-Za-z][\w-]*)?")
+
+
+def clauses_of(head):
+    """The clauses of a function's head, each with its kind: from its brace to the one that closes it."""
+    found = []
+    for begun in CLAUSE.finditer(head):
+        end, depth = begun.end(), 1
+        while depth:
+            depth += {"{": 1, "}": -1}.get(head[end], 0)
+            end += 1
+        found.append((begun.group(1), head[begun.end() : end - 1]))
+    return found
 
 
 def imports(text):
@@ -34,7 +49,7 @@ def imports(text):
     found = {}
     for path, names, alias in IMPORT.findall(text):
         parts = path.split(".")
-        crate = parts[0].removeprefix("Rattle·").removesuffix("·specs") if parts[0].startswith("Rattle·") else "kit"
+        crate = parts[1] if parts[0] == "Rattle" and parts[1] in CRATES else "kit"
         if alias:
             found[alias] = (crate, parts[-1], None)
         for name in re.split(r"\s*,\s*", names.strip()) if names else []:
@@ -61,15 +76,12 @@ def cited(clause, known):
 def rows():
     """One row for each public function, and what is wrong."""
     lines, wrong = [], []
-    for line in (TOP / "crates.txt").read_text().splitlines():
-        if line.startswith("#") or ":" not in line:
-            continue
-        crate = line.split(":")[0]
+    for crate in CRATES:
         for file in sorted((TOP / "crates" / crate / "src").glob("*.rt")):
             text = file.read_text()
             known = imports(text)
             for name, body in FUNCTION.findall(text):
-                clauses = CLAUSE.findall(body)
+                clauses = clauses_of(body)
                 answer = " ".join(c for kind, c in clauses if kind == "ensures")
                 names = cited(answer, known)
                 if not answer:
