@@ -10,7 +10,7 @@ use Rattle.paper.specs.Rewriting.{Letter, strikes, par_l, act_l, hit, rewritten}
 use Rattle.laws.specs.Nodes.{tree, intr}
 use Rattle.laws.specs.Weight.{weight, weight_i, room}
 use Rattle.words.specs.Word.{u_wait, mark, apply, Fine, Holds}
-use Rattle.words.specs.Pieces.{Cols, Put, Asks, Drawn, top, Made}
+use Rattle.words.specs.Pieces.{Cols, Put, Asks, Drawn, Made}
 use Rattle.words.proofs.Marks.{mark-wait}
 use Rattle.words.proofs.Trees.{intr-event}
 use Rattle.words.proofs.Holding.{nothing, front}

@@ -10,7 +10,7 @@ use Rattle.paper.specs.Rewriting.{Letter, ends, rewritten}
 use Rattle.laws.specs.Nodes.{intr}
 use Rattle.laws.specs.Weight.{weight, room}
 use Rattle.words.specs.Word.{u_one, mark, apply, Fine, Holds}
-use Rattle.words.specs.Pieces.{Table, Put, top, Made}
+use Rattle.words.specs.Pieces.{Table, Put, Made}
 use Rattle.words.proofs.Marks.{mark-wait, mark-one, mark-mod}
 use Rattle.words.proofs.Holding.{nothing, front}
 use Rattle.words.proofs.Joins.{made_up}

@@ -8,7 +8,6 @@ use lib.ListN.{get_or, length, drop, set, length-drop, drop_of_length-le}
 use lib.Seq.{drop-cons}
 use Rattle.paper.specs.Term.{Term, Left, gone, still}
 use Rattle.paper.specs.Rewriting.{Letter, rewritten}
-use Rattle.laws.specs.Nodes.{right}
 use Rattle.laws.specs.Weight.{weight_l}
 use Rattle.laws.proofs.Weighs.{rewritten-weighs}
 use Rattle.words.specs.Word.{mark, hd, apply, terms}
