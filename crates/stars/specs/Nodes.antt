@@ -9,7 +9,7 @@
 --     joining               passes: a `||` of interruptions
 --     Written at q ..       the arrays hold the nodes of the program q, whose text begins at `at`, in their first n places
 -- Assumes nothing.
-use Rattle.std.specs.Prelude.{ℕ, ◌+◌, ◌-◌, ◌≤◌, min, max, ◌≡◌, Bool, true, false, cond, ◌&&◌, ◌||◌, List, [], ◌∷◌, ◌++◌, eqb, leb, ltb, length, take, get_or}
+use Rattle.std.specs.Prelude.{ℕ, ◌+◌, ◌-◌, ◌≤◌, min, max, ◌≡◌, Bool, false, cond, ◌&&◌, ◌||◌, List, [], ◌∷◌, ◌++◌, eqb, leb, ltb, length, take, get_or}
 use Rattle.std.proofs.Math.Option.{Option, none, some}
 use Rattle.paper.specs.Bytes.{star_mark, slash_mark, colon_mark, bar_mark}
 use Rattle.paper.specs.Grammar.{Sequence, printed}
