@@ -1,0 +1,7 @@
+-- `emit::pad` meets its contract: the bits of 0 are zeros, and they end a byte (`padded`).
+-- Assumes nothing.
+use Rattle.emit.proofs.Loops.{padded}
+use Rattle.emit.proofs.pad.Goals as goal
+
+pub returns : goal.returns
+returns c = padded c.args.bit c.append.result c.append.ensures.0 c.append.ensures.1
