@@ -12,7 +12,7 @@ import re
 import sys
 
 TOKEN = r"[^\s(){}\[\],.\"λ]+"
-DROPPED_USES = ("Tie", "Statement", "Lts", "Reads", "Kinds", "PlainCycle", "borrow.Fn")
+DROPPED_USES = ("Tie", "Statement", "{ statement,", "Lts", "Reads", "Kinds", "PlainCycle", "borrow.Fn")
 PLAIN = {"search rules", "omega arith"}
 
 
@@ -50,6 +50,57 @@ def declarations(text):
     return header, uses, decls
 
 
+def own_clauses(me):
+    """The names of the clauses that the function requires, in their order, if it is the only function of its name."""
+    found = []
+    for where, _, files in os.walk("src"):
+        for f in files:
+            text = open(os.path.join(where, f), encoding="utf-8").read()
+            for m in re.finditer(r"\bfn " + re.escape(me.split(".")[-1]) + r"\b[^{;]*?(?=requires|ensures|\{)", text):
+                head = text[m.end() :].split("ensures")[0]
+                found.append(re.findall(r"requires(?: (\w+))? \{", head[: head.find("\n{") if "\n{" in head else len(head)]))
+    return found[0] if len(found) == 1 and all(found[0]) else []
+
+
+def parts(body):
+    """The parts of a tuple, or None."""
+    body = body.strip()
+    if not (body.startswith("(") and body.endswith(")")):
+        return None
+    out, depth, last = [], 0, 1
+    for i, ch in enumerate(body):
+        if ch in "({[":
+            depth += 1
+        elif ch in ")}]":
+            depth -= 1
+            if depth == 0 and i < len(body) - 1:
+                return None
+        elif ch == "," and depth == 1:
+            out.append(body[last:i].strip())
+            last = i + 1
+    out.append(body[last:-1].strip())
+    return out if len(out) > 1 else None
+
+
+def as_record(body, clauses, cycle):
+    """What a call asks, clause by clause: a tuple becomes a record with their names."""
+    ps = parts(body)
+    if cycle:
+        if not ps or len(ps) != 2:
+            return body
+        return f"({ps[0]}, {as_record(ps[1], clauses, False)})"
+    if not ps or len(ps) > len(clauses):
+        return body
+    while len(ps) < len(clauses):
+        more = parts(ps[-1])
+        if not more:
+            return body
+        ps[-1:] = more
+    if len(ps) != len(clauses):
+        return body
+    return "record { " + "; ".join(f"{k} = {v}" for k, v in zip(clauses, ps)) + " }"
+
+
 class Names:
     def __init__(self, data, params, me):
         self.needs = {}
@@ -74,6 +125,13 @@ class Names:
         self.stem = data["stem"]
         self.params = params
         self.callee = {norm(p[2][0]): p[3] for p in data["places"] if p[3]}
+        self.told = {}
+        for arm in data.get("arms", []):
+            for new, old, path in arm[2] if arm else []:
+                if path:
+                    self.told.setdefault((norm(old), ".".join(path)), f"{arm[0]}.{new}")
+        self.asked_clauses = data.get("asked", {})
+        self.clauses = own_clauses(me)
         self.me = me
 
 
@@ -98,9 +156,25 @@ def contexts(body):
     return found
 
 
+def named_clause(clauses):
+    def one(m):
+        path = (m.group(1) or m.group(3) or "") + (m.group(2) or m.group(4))
+        i = path.count("1")
+        return f".requires.{clauses[i]}" if i < len(clauses) and (path.endswith("0") or i == len(clauses) - 1) else m.group(0)
+
+    return one
+
+
 def body_of(body, names, place, left, cycle):
     ctx = contexts(body)
     body = re.sub(r"\.before(?![\w'-])", "", body)
+
+    def told(m):
+        v, label, path = m.groups()
+        new = names.told.get((norm(label), path)) if v in ctx and norm(label) not in names.callee else None
+        return f"{v}.{new}" if new else m.group(0)
+
+    body = re.sub(r"(?<![\w'.-])(\w+'?)\.([A-Za-z_][\w'-]*)\.(given(?:\.\d)+|ensures)(?![\w'.-])", told, body)
 
     def step(m):
         v, label = m.group(1), m.group(2)
@@ -114,6 +188,8 @@ def body_of(body, names, place, left, cycle):
     body = re.sub(r"(?<![\w'.-])(\w+'?)\.([A-Za-z_][\w'-]*)", step, body)
     if cycle:
         body = re.sub(r"\.requires\.1(?![\w'])", ".requires", body)
+    if names.clauses:
+        body = re.sub(r"\.requires\.((?:1\.)*)([01])(?![\w.])|\.requires\.((?:1\.)*)([01])(?=\.[a-z])", named_clause(names.clauses), body)
     if names.args:
         body = re.sub(r"\.args\.(\w+)", lambda m: ".args." + names.args.get(m.group(1), m.group(1)), body)
     # a test that is cited whole
@@ -133,6 +209,20 @@ def body_of(body, names, place, left, cycle):
         return m.group(0)
 
     body = re.sub(r"\.([A-Za-z_][\w'-]*)\.auto\.((?:1\.)*0)(?!\.?\d)", auto, body)
+    # what a call leaves in an argument, by the argument
+    def new(m):
+        label, ones = m.group(1), m.group(2).count("1")
+        old = [o for o, n in names.steps.items() if n == label]
+        fn = names.callee.get(old[0]) if old else None
+        ps = names.params.get(fn) if fn else None
+        if ps and ones < len(ps):
+            return f".{label}.new.{ps[ones]}"
+        left.append(m.group(0))
+        return m.group(0)
+
+    body = re.sub(r"\.([A-Za-z_][\w'-]*)\.new\.((?:1\.)*0)(?!\.?\d)", new, body)
+    # a test under `!` now speaks of what is negated
+    body = re.sub(r"\bnot-(?:true|false) _ (\w+\.if-not-[\w-]+\.(?:true|false))(?![\w'.-])", r"\1", body)
     # the two ways of a test, where they join
     def joined(m):
         a, b, v, label = m.groups()
@@ -155,7 +245,7 @@ def turn(path, name, all_names, prefix):
     for d in decls:
         m = re.match(r"(?:pub )?(?:abbrev )?([^\s:]+) : (?:\(t : ℕ\) → )?([\w-]*?)-?(tie|lts)\.(Need-)?([^\s]+)", d.replace("\n", " "))
         first = d.split("\n")[0]
-        if re.match(r"pub \S+ : \{M : Type 1\} → statement M", first):
+        if re.match(r"pub \S+ :\s+\{M : Type 1\} → statement M", d):
             continue
         if cycle and re.match(r"abbrev \S+-(at|below|called)\b|abbrev \S+_(at|below|called)\b", first):
             continue
@@ -163,7 +253,7 @@ def turn(path, name, all_names, prefix):
         if mu:
             fn = mu.group(1)
             names = next((n for n in all_names.values() if norm(n.me) == norm(fn)), None)
-            ps = next((p for f, p in names.params.items() if norm(f.split("::")[-1]) == norm(fn)), None) if names else None
+            ps = next((p for n in all_names.values() for f, p in n.params.items() if norm(f.split("::")[-1]) == norm(fn)), None)
             rhs = d.split("=", 1)[1].strip()
             if ps:
                 rhs = re.sub(r"a\.((?:1\.)*)0(?![\w])", lambda k: "l." + ps[k.group(1).count("1")], rhs)
@@ -208,10 +298,7 @@ def turn(path, name, all_names, prefix):
         key = norm(what)
         new = names.needs.get(key)
         if new is None:
-            if re.match(r"(same-length|struct-|enum-|slice-known|shared-slice|element-|array-)", key):
-                pass
             left.append("goal " + what)
-            new = None
         lines = d.split("\n")
         k = next((j for j, l in enumerate(lines) if re.match(re.escape(old_name) + r"( t)?( c)?( κs)?\s*=?", l) and j > 0), None)
         if k is None:
@@ -226,7 +313,12 @@ def turn(path, name, all_names, prefix):
         place = names.asked[idx] if names.asked and idx < len(names.asked) else None
         if body.strip() in PLAIN and not opened:
             continue
+        if new.startswith("shape_of-") and re.fullmatch(r"[\w.∙ \n-]*\.auto\.[\w.∙ \n-]*", body):
+            continue
         body = body_of(body, names, place, left, cycle)
+        if new in names.asked_clauses:
+            inside = cycle and re.sub(r"-requires(-\d+)?$", "", key) in {norm(n.me) for n in all_names.values()}
+            body = as_record(body, names.asked_clauses[new], inside)
         w = names.stem + new
         ans.append("\n".join([f"pub {w} : goal.{w}"] + opened + [f"{w} {'t ' if cycle else ''}c ={'' if body[:1] in (' ', chr(10)) else ' '}{body}"]))
     folder = os.path.dirname(path)
