@@ -91,7 +91,7 @@ fn leaf(
     }
 }
 
-#[cycle(atom_body_braces_chain_event_interruption_item_sequence_starred)]
+#[cycle(readers)]
 fn atom(
     s: &[u8],
     at: usize,
@@ -119,7 +119,7 @@ fn atom(
     }
 }
 
-#[cycle(atom_body_braces_chain_event_interruption_item_sequence_starred)]
+#[cycle(readers)]
 fn starred(
     s: &[u8],
     at: usize,
@@ -145,7 +145,7 @@ fn starred(
     }
 }
 
-#[cycle(atom_body_braces_chain_event_interruption_item_sequence_starred)]
+#[cycle(readers)]
 fn item(
     s: &[u8],
     at: usize,
@@ -175,7 +175,7 @@ fn item(
     }
 }
 
-#[cycle(atom_body_braces_chain_event_interruption_item_sequence_starred)]
+#[cycle(readers)]
 fn sequence(
     s: &[u8],
     at: usize,
@@ -205,7 +205,7 @@ fn sequence(
     }
 }
 
-#[cycle(atom_body_braces_chain_event_interruption_item_sequence_starred)]
+#[cycle(readers)]
 fn body(
     s: &[u8],
     at: usize,
@@ -239,7 +239,7 @@ fn body(
     }
 }
 
-#[cycle(atom_body_braces_chain_event_interruption_item_sequence_starred)]
+#[cycle(readers)]
 fn interruption(
     s: &[u8],
     at: usize,
@@ -259,7 +259,7 @@ fn interruption(
 }
 
 // An event, with its treatment if it has one.
-#[cycle(atom_body_braces_chain_event_interruption_item_sequence_starred)]
+#[cycle(readers)]
 fn event(
     s: &[u8],
     at: usize,
@@ -316,7 +316,7 @@ fn join_code(both: bool) -> u8
 }
 
 // `{` two or more interruptions `}`: the first join tells whether they are joined by `||`.
-#[cycle(atom_body_braces_chain_event_interruption_item_sequence_starred)]
+#[cycle(readers)]
 fn braces(
     s: &[u8],
     at: usize,
@@ -352,7 +352,7 @@ fn braces(
 }
 
 // The interruptions behind a join, all joined alike.
-#[cycle(atom_body_braces_chain_event_interruption_item_sequence_starred)]
+#[cycle(readers)]
 fn chain(
     s: &[u8],
     at: usize,
