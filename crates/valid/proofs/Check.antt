@@ -89,10 +89,10 @@ unfolding wrong_length
 right-length t c h =
     ap not (eq-eqb (length t) ((bit_count t + 7) / 8) (h.long ∙ ap (λ (n : ℕ). (n + 7) / 8) (with-counts (λ m n s. place m n s 0) t c h.read)))
 
-pub is_table : (t : List ℕ) (c : Counts) → Counted t c → not (wrong_name t) ≡ true → not (wrong_start t) ≡ true
+pub is-table : (t : List ℕ) (c : Counts) → Counted t c → not (wrong_name t) ≡ true → not (wrong_start t) ≡ true
     → not (wrong_next t || wrong_zeros t || wrong_event t) ≡ true → not (wrong_padding t) ≡ true → is_table t ≡ true
 unfolding is_table
-is_table t c h n s r p =
+is-table t c h n s r p =
     let l = right-layout t h.laid in
     let k = right-count t c h in
     let g = right-length t c h in
