@@ -20,6 +20,7 @@ fn plus(a: usize, b: usize) -> usize
 }
 
 // The parts of a node of the kind k whose own parts have l and r.
+#[tactic(auto, unfolding(crate::specs::Parts::row_parts))]
 fn row_parts(k: u8, l: usize, r: usize) -> usize
     ensures { result ≡ capped (row_parts k l r) }
 {
