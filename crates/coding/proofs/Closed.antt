@@ -1,7 +1,7 @@
 -- No rule leaves the written set. What a rewriting leaves right of the walk was there before, or is a part of such a part; and the parts of a node
 -- are nodes (`node_over`, `hit-over`). Weight, memory and stopped set are kept as `laws` has it, and at the end memory and set are empty.
 -- Assumes nothing.
-use Prim.Native.Nat.{ℕ, zero, suc, ◌-◌, ◌≤◌, ◌<◌}
+use Prim.Native.Nat.{ℕ, zero, suc, ◌≤◌, ◌<◌}
 use mathlib.Core.List.{List, []}
 use mathlib.Core.Path.{◌≡◌, refl, sym, ap, subst, ◌∙◌}
 use native.Mathlib.Nat.{pos_of_ne-zero}

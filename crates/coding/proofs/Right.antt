@@ -6,9 +6,9 @@
 --     code-unused           "unused bytes zero": behind the word, behind the memory, the bits of no module, the last two bytes
 --     code-end              at the end all are zero
 use Prim.Native.Nat.{ℕ, ◌<◌}
-use mathlib.Core.List.{List, [], ◌∷◌}
+use mathlib.Core.List.{List, []}
 use mathlib.Core.Logic.{◌↔◌}
-use mathlib.Core.Path.{◌≡◌, refl, ap}
+use mathlib.Core.Path.{◌≡◌, ap}
 use lib.ListN.{get_or, replicate}
 use Rattle.paper.specs.Lists.{from, below}
 use Rattle.paper.specs.Parse.{parse}
