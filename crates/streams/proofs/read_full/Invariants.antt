@@ -1,0 +1,14 @@
+-- `streams::read_full` meets its contract. The invariant: what stands at the front of the buffer is what the reader had; the measure: the bytes of room left.
+-- Assumes nothing.
+use Rattle.std.proofs.Common.{length, ◌-◌, take, ◌≤◌}
+use Rattle.std.specs.Io.KnownBytes.{Consumes}
+use Rattle.streams.proofs.read_full.Given as goal
+
+abbrev pub invariant-loop-done : goal.invariant-loop-done
+invariant-loop-done g l = record {
+  room : l.done ≤ length l.buffer;
+  front : Consumes (g.R.Read.remaining l.initial.reader) (g.R.Read.remaining l.reader) (take l.done l.buffer);
+}
+
+abbrev pub decreases-loop-done : goal.decreases-loop-done
+decreases-loop-done g l = length l.initial.buffer - l.done
