@@ -1,0 +1,25 @@
+-- `pack::mark_at` meets its contract: a stored event is one of the program's, so its mark is small (`mark-in`, `mark-small`), and none stands behind
+-- the last.
+-- Assumes nothing.
+use native.Mathlib.Omega.{arith}
+use lib.ListN.{length}
+use Rattle.pack.proofs.Numbers.{mark-in, mark-small, mark-behind}
+use mathlib.Core.Path.{◌≡◌, sym}
+use borrow.Author.Rules.{rules}
+use Rattle.pack.proofs.mark_at.Goals as goal
+
+pub overflow_add-result : goal.overflow_add-result
+overflow_add-result c =
+    let l : length c.args.memory.events ≡ 8 = search rules in
+    omega (arith, mark-in c.args.events.now c.args.memory l c.requires c.args.i c.place_of.result c.if-i-n.true c.place_of.ensures, mark-small c.args.events.now c.args.memory l c.requires c.args.i)
+
+pub returns-then-i-n : goal.returns-then-i-n
+returns-then-i-n c =
+    let l : length c.args.memory.events ≡ 8 = search rules in
+    let e = mark-in c.args.events.now c.args.memory l c.requires c.args.i c.place_of.result c.if-i-n.true c.place_of.ensures in
+    (e, omega (arith, e, mark-small c.args.events.now c.args.memory l c.requires c.args.i))
+
+pub returns-else-i-n : goal.returns-else-i-n
+returns-else-i-n c =
+    let l : length c.args.memory.events ≡ 8 = search rules in
+    (sym (mark-behind c.args.events.now c.args.memory l c.requires c.args.i (omega arith)), omega arith)
