@@ -1,0 +1,40 @@
+-- What is left to show of it; Invariants.antt tells the argument.
+use borrow.Author.Rules.{rules}
+use native.Mathlib.Omega.{arith}
+use mathlib.Core.Path.{◌≡◌, refl, sym, ◌∙◌}
+use lib.ListN.{length}
+use Rattle.rewrite.proofs.Occurring.{has_here, has_on, has_end}
+use Rattle.unpack.proofs.is_again.Goals as goal
+
+pub offset_bounds-memory-i : goal.offset_bounds-memory-i
+offset_bounds-memory-i c = omega (arith, c.requires)
+
+pub bounds-memory-i : goal.bounds-memory-i
+bounds-memory-i c = omega (arith, c.requires)
+
+pub overflow_add-k : goal.overflow_add-k
+overflow_add-k c = omega (arith, c.requires)
+
+pub loop-k-init : goal.loop-k-init
+loop-k-init c = ((omega arith, (refl, refl)), refl)
+
+pub offset_bounds-memory-k : goal.offset_bounds-memory-k
+offset_bounds-memory-k c = omega (arith, c.requires, c.loop-k-test.true)
+
+pub bounds-memory-k : goal.bounds-memory-k
+bounds-memory-k c = omega (arith, c.requires, c.loop-k-test.true)
+
+pub returns-then-e-memory : goal.returns-then-e-memory
+returns-then-e-memory c = let l : length c.args.memory.events ≡ 8 = search rules in sym (c.loop-k.invariant.1 ∙ has_here _ c.args.memory.events c.args.memory.count c.loop-k.k c.loop-k-test.true (omega (arith, l, c.requires.0)) c.if-e-memory.true)
+
+pub overflow_add-k-in-loop-k : goal.overflow_add-k-in-loop-k
+overflow_add-k-in-loop-k c = omega (arith, c.requires, c.loop-k-test.true)
+
+pub loop-k-smaller : goal.loop-k-smaller
+loop-k-smaller c = omega (arith, c.loop-k-test.true)
+
+pub loop-k-preserved : goal.loop-k-preserved
+loop-k-preserved c = let l : length c.args.memory.events ≡ 8 = search rules in ((omega (arith, c.loop-k.invariant.0.0), (refl, refl)), c.loop-k.invariant.1 ∙ has_on _ c.args.memory.events c.args.memory.count c.loop-k.k c.loop-k-test.true (omega (arith, l, c.requires.0)) c.if-e-memory.false)
+
+pub returns : goal.returns
+returns c = let l : length c.args.memory.events ≡ 8 = search rules in sym (c.loop-k.invariant.1 ∙ has_end _ c.args.memory.events c.args.memory.count c.loop-k.k c.loop-k-test.false (omega (arith, l, c.requires.0)))
