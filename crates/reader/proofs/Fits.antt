@@ -1,10 +1,10 @@
 -- A text that is a program of at most 96 tokens: the lists hold all its nodes (`tree-written`), so the checks and the node maker get what they ask. One
 -- that passes all checks has no 97th token and no ninth name (`passes-tokens`, `passes-modules`, `passes-events`). Assumes nothing.
-use Prim.Native.Nat.{ℕ, ◌+◌, ◌-◌, ◌≤◌}
+use Prim.Native.Nat.{ℕ, ◌+◌, ◌≤◌}
 use mathlib.Core.Path.{◌≡◌, refl, sym, ap, subst, ◌∙◌}
 use mathlib.Core.Bool.{Bool, true, false}
 use mathlib.Core.List.{List, ◌++◌}
-use mathlib.Core.Option.{Option, none, some}
+use mathlib.Core.Option.{Option, none}
 use native.Mathlib.Omega.{arith}
 use lib.Dec.{ltb}
 use lib.ListN.{length, take, drop, replicate, length-replicate, length-take}
@@ -13,12 +13,12 @@ use borrow.Author.Tests.{ltb-false}
 use Rattle.paper.specs.Bytes.{is_module, is_event}
 use Rattle.paper.specs.Grammar.{Sequence, printed}
 use Rattle.paper.specs.Parse.{program, parse}
-use Rattle.paper.specs.File.{Answer, refused, accepted, unless, and_then, where_if, Read, nothing_read, lines, read_lines}
+use Rattle.paper.specs.File.{Answer, refused, accepted, unless, and_then, where_if, nothing_read, lines, read_lines}
 use Rattle.paper.specs.Limits.{tokens, over96, too_deep, too_starred, ninth}
 use Rattle.paper.specs.Reaction.{Program}
 use Rattle.paper.specs.Refusals.{Edition, basic, adaptive, most_bytes, program_of, programmed, for_edition, within_limits, with_letters}
 use Rattle.paper.proofs.Choices.{clash}
-use Rattle.laws.specs.Placed.{placed_s, size, codes, lefts, places}
+use Rattle.laws.specs.Placed.{placed_s, codes, lefts, places}
 use Rattle.laws.proofs.Ordered.{Clear, checks, programmed-first, first-accepts}
 use Rattle.laws.proofs.Parsing.{parse-program}
 use Rattle.laws.proofs.Tokens.{few-tokens}
@@ -29,7 +29,7 @@ use Rattle.letters.specs.declared.Found.TheVariants.{At, Nothing}
 use Rattle.nodes.proofs.Laws.{size_below}
 use Rattle.syntax.proofs.Stores.{length-codes, length-lefts, length-places}
 use Rattle.text.specs.declared.Lines.{Lines}
-use Rattle.text.specs.Spans.{part, value_at, program_in, read_of, lines_read}
+use Rattle.text.specs.Spans.{value_at, program_in, read_of, lines_read}
 use Rattle.text.proofs.Parts.{length_part}
 use Rattle.text.proofs.Onward.{program-there}
 use Rattle.reader.specs.Stages.{Taken, text_of, HasTree, limited, Passes}

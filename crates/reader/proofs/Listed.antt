@@ -4,26 +4,24 @@ use Prim.Native.Nat.{ℕ, zero, suc, ◌+◌, ◌-◌, ◌<◌, ◌≤◌}
 use mathlib.Core.Path.{◌≡◌, refl, sym, ap, ap₂, ◌∙◌}
 use mathlib.Core.Bool.{Bool, true, false, cond, ◌&&◌, ◌||◌}
 use mathlib.Core.List.{List, [], ◌∷◌, ◌++◌}
-use mathlib.Core.Option.{Option, none, some}
+use mathlib.Core.Option.{none, some}
 use native.Mathlib.Omega.{arith}
 use lib.Dec.{eqb, ltb}
-use lib.ListN.{length, get_or, drop, take}
+use lib.ListN.{length, get_or, take}
 use lib.Seq.{slice, slice_empty, length-slice, get_or-drop, get_or-take}
 use borrow.Author.Tests.{eqb-true, eqb-false, eq-eqb, ne_eqb}
-use Rattle.paper.specs.Lists.{has, keep, below, from}
+use Rattle.paper.specs.Lists.{has, below, from}
 use Rattle.paper.specs.Bytes.{is_event}
 use Rattle.paper.specs.Grammar.{event_byte}
-use Rattle.paper.specs.File.{Value, Listed, listed_from, letters_of}
+use Rattle.paper.specs.File.{Listed, listed_from, letters_of}
 use Rattle.paper.specs.Refusals.{ascending, fugitive_text}
 use Rattle.laws.proofs.Letters.{has-keep}
 use Rattle.letters.specs.Letters.{Tells, TellsFrom, Events}
-use Rattle.limits.specs.Checks.{ListsAre}
-use Rattle.limits.specs.declared.Lists.{Lists}
 use Rattle.letters.proofs.Flags.{letter-low}
 use Rattle.joins.proofs.Uses.{has-append}
 use Rattle.text.specs.declared.Span.{Span}
 use Rattle.text.specs.declared.Lines.{Lines}
-use Rattle.text.specs.Spans.{part, value_at, value_in, listed_within, two_in_order, read_of, Lies}
+use Rattle.text.specs.Spans.{part, value_at, listed_within, two_in_order, read_of, Lies}
 use Rattle.text.proofs.Entering.{letters-append}
 use Rattle.text.proofs.Listed.{standard-event, fugitive-event}
 use Rattle.reader.specs.Stages.{Taken, Listing}

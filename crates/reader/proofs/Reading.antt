@@ -1,12 +1,11 @@
 -- From the parts of the reading to the whole: what `read_lines`, the reader of the text and the checks answered is the paper's `reading`. Assumes nothing.
-use Prim.Native.Nat.{ℕ, ◌+◌, ◌-◌, ◌≤◌}
-use mathlib.Core.Path.{◌≡◌, refl, sym, ap, subst, ◌∙◌}
+use Prim.Native.Nat.{ℕ, ◌+◌, ◌-◌}
+use mathlib.Core.Path.{◌≡◌, sym, ap, subst, ◌∙◌}
 use mathlib.Core.List.{List}
 use native.Mathlib.Omega.{arith}
-use lib.ListN.{length, drop, take, replicate}
-use lib.Seq.{slice}
+use lib.ListN.{take, replicate}
 use Rattle.paper.specs.Grammar.{Sequence}
-use Rattle.paper.specs.Parse.{Parsed, program, stops, parse}
+use Rattle.paper.specs.Parse.{program, stops, parse}
 use Rattle.paper.specs.File.{Answer, refused, accepted}
 use Rattle.paper.specs.Reaction as paper
 use Rattle.paper.specs.Refusals.{Edition, program_of, programmed, reading}
@@ -19,7 +18,7 @@ use Rattle.text.proofs.Onward.{reading-read}
 use Rattle.syntax.specs.Outcome.{IsRead, StopsAt}
 use Rattle.reader.specs.declared.Program.{Program}
 use Rattle.reader.specs.Reads.{given, ReadsAs}
-use Rattle.reader.specs.Stages.{Taken, text_of, HasTree, limited, Passes, Fit}
+use Rattle.reader.specs.Stages.{Taken, text_of, HasTree, limited, Fit}
 use Rattle.reader.proofs.Slices.{slice-part}
 
 -- a refusal, with zeros in the arrays

@@ -16,7 +16,6 @@ use Rattle.letters.specs.Letters.{names_of}
 use Rattle.nodes.specs.ByTerm.{made_of}
 use Rattle.nodes.specs.Weights.{node_weight}
 use Rattle.reader.specs.declared.Program.{Program}
-use Rattle.reader.specs.declared.Verdict.{Verdict}
 use Rattle.reader.specs.declared.Verdict.TheVariants.{Refused, Accepted}
 
 abbrev pub edition_of : Bool → Edition
