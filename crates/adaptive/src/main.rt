@@ -2,15 +2,16 @@
 // `refused NUMBER at PLACE`. One byte more than a file may have is read, so that a longer one is refused, whatever else it holds.
 #![tactic(auto)]
 
-use libc::{STDIN_FILENO, STDOUT_FILENO};
+use std::io;
+use std::io::Write;
 
-fn main() {
+fn main(rt: HostRuntime) -> io::Result<()> {
     let mut file = [0u8; 1025];
-    let count = io::read_full(STDIN_FILENO, &mut file);
+    let count = streams::read_full(&mut rt.stdin(), &mut file)?;
     let mut output = [0u8; 26640];
     let mut work = [0u8; 65536];
     let c = compiler::compile_adaptive(&file[..count], &mut output, &mut work);
     let mut line = [0u8; 53400];
     let end = printing::text(c.number, c.place, c.states, c.size, &output, &mut line);
-    io::write_all(STDOUT_FILENO, &line[..end]);
+    rt.stdout().write_all(&line[..end])
 }

@@ -5,7 +5,8 @@
 ghost use Rattle.std.specs.Prelude.{◌≤◌, ◌<◌, length};
 
 use compiler::Compiled;
-use libc::{STDIN_FILENO, STDOUT_FILENO};
+use std::io;
+use std::io::{Read, Write};
 
 fn two_bytes(high: u8, low: u8) -> usize
     ensures { result < 65536 }
@@ -13,57 +14,65 @@ fn two_bytes(high: u8, low: u8) -> usize
     high as usize * 256 + low as usize
 }
 
-fn print_answer(c: Compiled, output: &[u8; 26640]) {
+fn print_answer<W: Write>(output: &mut W, c: Compiled, table: &[u8; 26640]) -> io::Result<()> {
     let mut line = [0u8; 53400];
-    let end = printing::text(c.number, c.place, c.states, c.size, output, &mut line);
-    io::write_all(STDOUT_FILENO, &line[..end]);
+    let end = printing::text(c.number, c.place, c.states, c.size, table, &mut line);
+    output.write_all(&line[..end])
 }
 
-fn print_basic(file: &[u8]) {
-    let mut output = [0u8; 26640];
+fn print_basic<W: Write>(output: &mut W, file: &[u8]) -> io::Result<()> {
+    let mut table = [0u8; 26640];
     let mut work = [0u8; 65536];
-    let c = compiler::compile_basic(file, &mut output, &mut work);
-    print_answer(c, &output);
+    let c = compiler::compile_basic(file, &mut table, &mut work);
+    print_answer(output, c, &table)
 }
 
-fn print_adaptive(file: &[u8]) {
-    let mut output = [0u8; 26640];
+fn print_adaptive<W: Write>(output: &mut W, file: &[u8]) -> io::Result<()> {
+    let mut table = [0u8; 26640];
     let mut work = [0u8; 65536];
-    let c = compiler::compile_adaptive(file, &mut output, &mut work);
-    print_answer(c, &output);
+    let c = compiler::compile_adaptive(file, &mut table, &mut work);
+    print_answer(output, c, &table)
 }
 
 // Reads the file of a frame and prints its two answers, or false where it is cut short.
-fn answer(size: usize, space: &mut [u8]) -> bool
+fn answer<R: Read, W: Write>(
+    input: &mut R,
+    output: &mut W,
+    size: usize,
+    space: &mut [u8],
+) -> io::Result<bool>
     requires { size ≤ length space.old }
 {
-    let n = io::read_full(STDIN_FILENO, &mut space[..size]);
-    if n != size {
-        return false;
+    if !streams::fill(input, &mut space[..size])? {
+        return Ok(false);
     }
-    print_basic(&space[..size]);
-    print_adaptive(&space[..size]);
-    true
+    print_basic(output, &space[..size])?;
+    print_adaptive(output, &space[..size])?;
+    Ok(true)
 }
 
 // One frame; false at the end of the input.
-fn frame(space: &mut [u8; 65536]) -> bool {
+fn frame<R: Read, W: Write>(
+    input: &mut R,
+    output: &mut W,
+    space: &mut [u8; 65536],
+) -> io::Result<bool> {
     let mut head = [0u8; 2];
-    let n = io::read_full(STDIN_FILENO, &mut head);
-    if n != 2 {
-        return false;
+    if !streams::fill(input, &mut head)? {
+        return Ok(false);
     }
-    answer(two_bytes(head[0], head[1]), space)
+    answer(input, output, two_bytes(head[0], head[1]), space)
 }
 
 // A million frames at most.
-fn main() {
+fn main(rt: HostRuntime) -> io::Result<()> {
+    let mut input = rt.stdin();
+    let mut output = rt.stdout();
     let mut space = [0u8; 65536];
-    let mut left: usize = 1000000;
-    while left > 0 {
-        if !frame(&mut space) {
-            return;
+    for _ in 0..1000000 {
+        if !frame(&mut input, &mut output, &mut space)? {
+            break;
         }
-        left -= 1;
     }
+    Ok(())
 }

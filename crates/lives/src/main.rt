@@ -5,7 +5,8 @@
 
 ghost use Rattle.std.specs.Prelude.{◌≤◌, ◌<◌, length};
 
-use libc::{STDIN_FILENO, STDOUT_FILENO};
+use std::io;
+use std::io::{Read, Write};
 
 fn two_bytes(high: u8, low: u8) -> usize
     ensures { result < 65536 }
@@ -38,46 +39,43 @@ fn put(line: &mut [u8; 512], at: usize, b: u8) -> usize {
     at
 }
 
-fn print_part(line: &[u8], end: usize) {
+fn print_part<W: Write>(output: &mut W, line: &[u8], end: usize) -> io::Result<()> {
     if end <= line.len() {
-        io::write_all(STDOUT_FILENO, &line[..end]);
+        output.write_all(&line[..end])?;
     }
+    Ok(())
 }
 
-fn print_line(line: &[u8; 512], end: usize) {
-    print_part(line, end);
+fn print_line<W: Write>(output: &mut W, line: &[u8; 512], end: usize) -> io::Result<()> {
+    print_part(output, line, end)
 }
 
-fn print_text(text: &[u8; 8]) {
-    io::write_all(STDOUT_FILENO, text);
+fn print_text<W: Write>(output: &mut W, text: &[u8; 8]) -> io::Result<()> {
+    output.write_all(text)
 }
 
-fn print_orders(orders: [u8; 8]) {
+fn print_orders<W: Write>(output: &mut W, orders: [u8; 8]) -> io::Result<()> {
     let mut text = [0u8; 8];
     let mut k: usize = 0;
     while k < 8 {
         text[k] = digit(orders[k]);
         k += 1;
     }
-    print_text(&text);
+    print_text(output, &text)
 }
 
-fn print_answer(a: engine::Answer) {
+fn print_answer<W: Write>(output: &mut W, a: engine::Answer) -> io::Result<()> {
     let number = a.number;
     let place = a.place;
     let orders = a.orders;
     if number != 0 {
-        io::write_all(STDOUT_FILENO, b"refused ");
-        io::print_decimal(STDOUT_FILENO, number as u64);
-        io::write_all(STDOUT_FILENO, b" at ");
-        io::print_decimal(STDOUT_FILENO, place as u64);
-    } else {
-        print_orders(orders);
+        return write!(output, "refused {number} at {place}");
     }
+    print_orders(output, orders)
 }
 
 // A space, two digits for each byte, and the line's end.
-fn print_bytes(live: &[u8]) {
+fn print_bytes<W: Write>(output: &mut W, live: &[u8]) -> io::Result<()> {
     let mut line = [0u8; 512];
     let mut end = put(&mut line, 0, b' ');
     let mut i: usize = 0;
@@ -87,7 +85,7 @@ fn print_bytes(live: &[u8]) {
         i += 1;
     }
     end = put(&mut line, end, 10);
-    print_line(&line, end);
+    print_line(output, &line, end)
 }
 
 fn call(kind: u8, letter: u8, file: &[u8], live: &mut [u8]) -> engine::Answer {
@@ -97,55 +95,73 @@ fn call(kind: u8, letter: u8, file: &[u8], live: &mut [u8]) -> engine::Answer {
     engine::step(file, live, letter)
 }
 
-fn answer(kind: u8, letter: u8, file: &[u8], live: &mut [u8]) {
+fn answer<W: Write>(
+    output: &mut W,
+    kind: u8,
+    letter: u8,
+    file: &[u8],
+    live: &mut [u8],
+) -> io::Result<()> {
     let a = call(kind, letter, file, live);
-    print_answer(a);
-    print_bytes(live);
+    print_answer(output, a)?;
+    print_bytes(output, live)
 }
 
-fn answer_parts(kind: u8, letter: u8, file: &[u8], size: usize, live: &mut [u8], count: usize)
+fn answer_parts<W: Write>(
+    output: &mut W,
+    kind: u8,
+    letter: u8,
+    file: &[u8],
+    size: usize,
+    live: &mut [u8],
+    count: usize,
+) -> io::Result<()>
     requires size_in_bounds { size ≤ length file.now }
     requires count_in_bounds { count ≤ length live.old }
 {
-    answer(kind, letter, &file[..size], &mut live[..count]);
+    answer(output, kind, letter, &file[..size], &mut live[..count])
 }
 
 // Fills the first `size` bytes, or answers false where the input ends before.
-fn read_part(space: &mut [u8], size: usize) -> bool
+fn read_part<R: Read>(input: &mut R, space: &mut [u8], size: usize) -> io::Result<bool>
     requires { size ≤ length space.old }
 {
-    let n = io::read_full(STDIN_FILENO, &mut space[..size]);
-    n == size
+    streams::fill(input, &mut space[..size])
 }
 
 // One frame; false at the end of the input.
-fn frame(file: &mut [u8; 65536], live: &mut [u8; 256]) -> bool {
+fn frame<R: Read, W: Write>(
+    input: &mut R,
+    output: &mut W,
+    file: &mut [u8; 65536],
+    live: &mut [u8; 256],
+) -> io::Result<bool> {
     let mut head = [0u8; 5];
-    let n = io::read_full(STDIN_FILENO, &mut head);
-    if n != 5 {
-        return false;
+    if !streams::fill(input, &mut head)? {
+        return Ok(false);
     }
     let count = one_byte(head[2]);
     let size = two_bytes(head[3], head[4]);
-    if !read_part(file, size) {
-        return false;
+    if !read_part(input, file, size)? {
+        return Ok(false);
     }
-    if !read_part(live, count) {
-        return false;
+    if !read_part(input, live, count)? {
+        return Ok(false);
     }
-    answer_parts(head[0], head[1], file, size, live, count);
-    true
+    answer_parts(output, head[0], head[1], file, size, live, count)?;
+    Ok(true)
 }
 
 // A million frames at most.
-fn main() {
+fn main(rt: HostRuntime) -> io::Result<()> {
+    let mut input = rt.stdin();
+    let mut output = rt.stdout();
     let mut file = [0u8; 65536];
     let mut live = [0u8; 256];
-    let mut left: usize = 1000000;
-    while left > 0 {
-        if !frame(&mut file, &mut live) {
-            return;
+    for _ in 0..1000000 {
+        if !frame(&mut input, &mut output, &mut file, &mut live)? {
+            break;
         }
-        left -= 1;
     }
+    Ok(())
 }

@@ -6,8 +6,9 @@
 ghost use Rattle.std.specs.Prelude.{◌≤◌, ◌<◌, length};
 
 use letters::Names;
-use libc::{STDIN_FILENO, STDOUT_FILENO};
 use reader::{Program, Verdict};
+use std::io;
+use std::io::{Read, Write};
 
 fn two_bytes(high: u8, low: u8) -> usize
     ensures { result < 65536 }
@@ -98,25 +99,22 @@ fn put_node(line: &mut [u8; 512], at: usize, nodes: &[u8; 768], i: u8, depth: us
     put(line, end, mark(kind, nodes[place + 576]))
 }
 
-fn print_part(line: &[u8], end: usize) {
+fn print_part<W: Write>(output: &mut W, line: &[u8], end: usize) -> io::Result<()> {
     if end <= line.len() {
-        io::write_all(STDOUT_FILENO, &line[..end]);
+        output.write_all(&line[..end])?;
     }
+    Ok(())
 }
 
-fn print_line(line: &[u8; 512], end: usize) {
-    print_part(line, end);
+fn print_line<W: Write>(output: &mut W, line: &[u8; 512], end: usize) -> io::Result<()> {
+    print_part(output, line, end)
 }
 
-fn print_refusal(number: usize, place: usize) {
-    io::write_all(STDOUT_FILENO, b"refused ");
-    io::print_decimal(STDOUT_FILENO, number as u64);
-    io::write_all(STDOUT_FILENO, b" at ");
-    io::print_decimal(STDOUT_FILENO, place as u64);
-    io::write_all(STDOUT_FILENO, b"\n");
+fn print_refusal<W: Write>(output: &mut W, number: usize, place: usize) -> io::Result<()> {
+    writeln!(output, "refused {number} at {place}")
 }
 
-fn print_program(p: Program, nodes: &[u8; 768]) {
+fn print_program<W: Write>(output: &mut W, p: Program, nodes: &[u8; 768]) -> io::Result<()> {
     let modules = p.modules;
     let events = p.events;
     let fugitive = p.fugitive;
@@ -128,52 +126,60 @@ fn print_program(p: Program, nodes: &[u8; 768]) {
     end = put(&mut line, end, b' ');
     end = put_node(&mut line, end, nodes, (root % 256) as u8, 192);
     end = put(&mut line, end, 10);
-    io::write_all(STDOUT_FILENO, b"read");
-    print_line(&line, end);
+    output.write_all(b"read")?;
+    print_line(output, &line, end)
 }
 
-fn print_reading(file: &[u8], basic: bool) {
+fn print_reading<W: Write>(output: &mut W, file: &[u8], basic: bool) -> io::Result<()> {
     let mut nodes = [0u8; 768];
     let mut weights = [0u8; 192];
     let p = reader::read(file, basic, &mut nodes, &mut weights);
     let verdict = p.verdict;
     match verdict {
-        Verdict::Refused { number, place } => print_refusal(number, place),
-        Verdict::Accepted => print_program(p, &nodes),
+        Verdict::Refused { number, place } => print_refusal(output, number, place),
+        Verdict::Accepted => print_program(output, p, &nodes),
     }
 }
 
 // Reads the file of a frame and prints its two lines, or false where it is cut short.
-fn answer(size: usize, space: &mut [u8]) -> bool
+fn answer<R: Read, W: Write>(
+    input: &mut R,
+    output: &mut W,
+    size: usize,
+    space: &mut [u8],
+) -> io::Result<bool>
     requires { size ≤ length space.old }
 {
-    let n = io::read_full(STDIN_FILENO, &mut space[..size]);
-    if n != size {
-        return false;
+    if !streams::fill(input, &mut space[..size])? {
+        return Ok(false);
     }
-    print_reading(&space[..size], true);
-    print_reading(&space[..size], false);
-    true
+    print_reading(output, &space[..size], true)?;
+    print_reading(output, &space[..size], false)?;
+    Ok(true)
 }
 
 // One frame; false at the end of the input.
-fn frame(space: &mut [u8; 65536]) -> bool {
+fn frame<R: Read, W: Write>(
+    input: &mut R,
+    output: &mut W,
+    space: &mut [u8; 65536],
+) -> io::Result<bool> {
     let mut head = [0u8; 2];
-    let n = io::read_full(STDIN_FILENO, &mut head);
-    if n != 2 {
-        return false;
+    if !streams::fill(input, &mut head)? {
+        return Ok(false);
     }
-    answer(two_bytes(head[0], head[1]), space)
+    answer(input, output, two_bytes(head[0], head[1]), space)
 }
 
 // A million frames at most.
-fn main() {
+fn main(rt: HostRuntime) -> io::Result<()> {
+    let mut input = rt.stdin();
+    let mut output = rt.stdout();
     let mut space = [0u8; 65536];
-    let mut left: usize = 1000000;
-    while left > 0 {
-        if !frame(&mut space) {
-            return;
+    for _ in 0..1000000 {
+        if !frame(&mut input, &mut output, &mut space)? {
+            break;
         }
-        left -= 1;
     }
+    Ok(())
 }

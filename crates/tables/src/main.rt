@@ -5,7 +5,8 @@
 
 ghost use Rattle.std.specs.Prelude.{◌≤◌, ◌<◌, length};
 
-use libc::{STDIN_FILENO, STDOUT_FILENO};
+use std::io;
+use std::io::{Read, Write};
 
 fn two_bytes(high: u8, low: u8) -> usize
     ensures { result < 65536 }
@@ -18,12 +19,12 @@ fn digit(order: u8) -> u8 {
     if order < 4 { 48 + order } else { 63 }
 }
 
-fn print_text(text: &[u8; 17]) {
-    io::write_all(STDOUT_FILENO, text);
+fn print_text<W: Write>(output: &mut W, text: &[u8; 17]) -> io::Result<()> {
+    output.write_all(text)
 }
 
 // Eight orders: a space and a digit for each, and the line's end.
-fn print_orders(orders: [u8; 8]) {
+fn print_orders<W: Write>(output: &mut W, orders: [u8; 8]) -> io::Result<()> {
     let mut text = [32u8; 17];
     let mut k: usize = 0;
     while k < 8 {
@@ -31,22 +32,18 @@ fn print_orders(orders: [u8; 8]) {
         k += 1;
     }
     text[16] = 10;
-    print_text(&text);
+    print_text(output, &text)
 }
 
-fn print_answer(a: table::Answer) {
+fn print_answer<W: Write>(output: &mut W, a: table::Answer) -> io::Result<()> {
     let number = a.number;
     let state = a.state;
     let orders = a.orders;
     if number != 0 {
-        io::write_all(STDOUT_FILENO, b"refused ");
-        io::print_decimal(STDOUT_FILENO, number as u64);
-        io::write_all(STDOUT_FILENO, b"\n");
-    } else {
-        io::write_all(STDOUT_FILENO, b"state ");
-        io::print_decimal(STDOUT_FILENO, state as u64);
-        print_orders(orders);
+        return writeln!(output, "refused {number}");
     }
+    write!(output, "state {state}")?;
+    print_orders(output, orders)
 }
 
 fn call(kind: u8, state: usize, letter: u8, t: &[u8]) -> table::Answer {
@@ -57,37 +54,48 @@ fn call(kind: u8, state: usize, letter: u8, t: &[u8]) -> table::Answer {
 }
 
 // Reads the table of a frame and answers it, or false where it is cut short.
-fn answer(kind: u8, state: usize, letter: u8, size: usize, space: &mut [u8]) -> bool
+fn answer<R: Read, W: Write>(
+    input: &mut R,
+    output: &mut W,
+    kind: u8,
+    state: usize,
+    letter: u8,
+    size: usize,
+    space: &mut [u8],
+) -> io::Result<bool>
     requires { size ≤ length space.old }
 {
-    let n = io::read_full(STDIN_FILENO, &mut space[..size]);
-    if n != size {
-        return false;
+    if !streams::fill(input, &mut space[..size])? {
+        return Ok(false);
     }
-    print_answer(call(kind, state, letter, &space[..size]));
-    true
+    print_answer(output, call(kind, state, letter, &space[..size]))?;
+    Ok(true)
 }
 
 // One frame; false at the end of the input.
-fn frame(space: &mut [u8; 65536]) -> bool {
+fn frame<R: Read, W: Write>(
+    input: &mut R,
+    output: &mut W,
+    space: &mut [u8; 65536],
+) -> io::Result<bool> {
     let mut head = [0u8; 6];
-    let n = io::read_full(STDIN_FILENO, &mut head);
-    if n != 6 {
-        return false;
+    if !streams::fill(input, &mut head)? {
+        return Ok(false);
     }
     let state = two_bytes(head[1], head[2]);
     let size = two_bytes(head[4], head[5]);
-    answer(head[0], state, head[3], size, space)
+    answer(input, output, head[0], state, head[3], size, space)
 }
 
 // A million frames at most.
-fn main() {
+fn main(rt: HostRuntime) -> io::Result<()> {
+    let mut input = rt.stdin();
+    let mut output = rt.stdout();
     let mut space = [0u8; 65536];
-    let mut left: usize = 1000000;
-    while left > 0 {
-        if !frame(&mut space) {
-            return;
+    for _ in 0..1000000 {
+        if !frame(&mut input, &mut output, &mut space)? {
+            break;
         }
-        left -= 1;
     }
+    Ok(())
 }

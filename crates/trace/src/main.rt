@@ -6,7 +6,9 @@
 
 ghost use Rattle.std.specs.Prelude.{◌≤◌, ◌<◌, length};
 
-use libc::{STDIN_FILENO, STDOUT_FILENO};
+use std::env::{Env, FillError};
+use std::io;
+use std::io::{Read, Write};
 
 fn two_bytes(high: u8, low: u8) -> usize
     ensures { result < 65536 }
@@ -54,66 +56,72 @@ fn put_orders(
     end
 }
 
-fn print_part(line: &[u8], end: usize) {
+fn print_part<W: Write>(output: &mut W, line: &[u8], end: usize) -> io::Result<()> {
     if end <= line.len() {
-        io::write_all(STDOUT_FILENO, &line[..end]);
+        output.write_all(&line[..end])?;
     }
+    Ok(())
 }
 
-fn print_line(line: &[u8; 32], end: usize) {
-    print_part(line, end);
+fn print_line<W: Write>(output: &mut W, line: &[u8; 32], end: usize) -> io::Result<()> {
+    print_part(output, line, end)
 }
 
-fn print_refusal(number: usize, place: usize) {
-    io::write_all(STDOUT_FILENO, b"refused ");
-    io::print_decimal(STDOUT_FILENO, number as u64);
-    io::write_all(STDOUT_FILENO, b" at ");
-    io::print_decimal(STDOUT_FILENO, place as u64);
-    io::write_all(STDOUT_FILENO, b"\n");
+fn print_refusal<W: Write>(output: &mut W, number: usize, place: usize) -> io::Result<()> {
+    writeln!(output, "refused {number} at {place}")
 }
 
-fn print_start(modules: [u8; 8], orders: [u8; 8]) {
+fn print_start<W: Write>(output: &mut W, modules: [u8; 8], orders: [u8; 8]) -> io::Result<()> {
     let mut line = [0u8; 32];
     let mut end = put_orders(&mut line, 0, modules, orders, false);
     end = put(&mut line, end, 10);
-    io::write_all(STDOUT_FILENO, b"start");
-    print_line(&line, end);
+    output.write_all(b"start")?;
+    print_line(output, &line, end)
 }
 
-fn print_letter(letter: u8) {
+fn print_letter<W: Write>(output: &mut W, letter: u8) -> io::Result<()> {
     let mut line = [0u8; 32];
     let end = put(&mut line, 0, letter);
-    print_line(&line, end);
+    print_line(output, &line, end)
 }
 
-fn print_step(letter: u8, modules: [u8; 8], a: engine::Answer) {
+fn print_step<W: Write>(
+    output: &mut W,
+    letter: u8,
+    modules: [u8; 8],
+    a: engine::Answer,
+) -> io::Result<()> {
     let number = a.number;
     let orders = a.orders;
     if number != 0 {
-        print_letter(letter);
-        io::write_all(STDOUT_FILENO, b" refused ");
-        io::print_decimal(STDOUT_FILENO, number as u64);
-        io::write_all(STDOUT_FILENO, b"\n");
-        return;
+        print_letter(output, letter)?;
+        return writeln!(output, " refused {number}");
     }
     let mut line = [0u8; 32];
     let mut end = put(&mut line, 0, letter);
     end = put_orders(&mut line, end, modules, orders, true);
     end = put(&mut line, end, 10);
-    print_line(&line, end);
+    print_line(output, &line, end)
 }
 
 fn step(file: &[u8], live: &mut [u8; 128], letter: u8) -> engine::Answer {
     engine::step(file, live, letter)
 }
 
-fn print_steps(file: &[u8], modules: [u8; 8], live: &mut [u8; 128], letters: &[u8]) {
+fn print_steps<W: Write>(
+    output: &mut W,
+    file: &[u8],
+    modules: [u8; 8],
+    live: &mut [u8; 128],
+    letters: &[u8],
+) -> io::Result<()> {
     let mut i: usize = 0;
     while i < letters.len() {
         let letter = letters[i];
-        print_step(letter, modules, step(file, live, letter));
+        print_step(output, letter, modules, step(file, live, letter))?;
         i += 1;
     }
+    Ok(())
 }
 
 // The modules of an accepted file.
@@ -125,91 +133,95 @@ fn modules_of(file: &[u8]) -> [u8; 8] {
     modules.letters
 }
 
-fn run(file: &[u8], letters: &[u8]) {
+fn run<W: Write>(output: &mut W, file: &[u8], letters: &[u8]) -> io::Result<()> {
     let mut live = [0u8; 128];
     let a = engine::start(file, &mut live);
     let number = a.number;
     let orders = a.orders;
     if number != 0 {
-        print_refusal(number, a.place);
-        return;
+        return print_refusal(output, number, a.place);
     }
     let modules = modules_of(file);
-    print_start(modules, orders);
-    print_steps(file, modules, &mut live, letters);
+    print_start(output, modules, orders)?;
+    print_steps(output, file, modules, &mut live, letters)
 }
 
-fn run_parts(file: &[u8], size: usize, letters: &[u8], count: usize)
+fn run_parts<W: Write>(
+    output: &mut W,
+    file: &[u8],
+    size: usize,
+    letters: &[u8],
+    count: usize,
+) -> io::Result<()>
     requires size_in_bounds { size ≤ length file.now }
     requires count_in_bounds { count ≤ length letters.now }
 {
-    run(&file[..size], &letters[..count]);
+    run(output, &file[..size], &letters[..count])
 }
 
 // Fills the first `size` bytes, or answers false where the input ends before.
-fn read_part(space: &mut [u8], size: usize) -> bool
+fn read_part<R: Read>(input: &mut R, space: &mut [u8], size: usize) -> io::Result<bool>
     requires { size ≤ length space.old }
 {
-    let n = io::read_full(STDIN_FILENO, &mut space[..size]);
-    n == size
+    streams::fill(input, &mut space[..size])
 }
 
-fn read_size(head: &mut [u8; 2]) -> bool {
-    let n = io::read_full(STDIN_FILENO, head);
-    n == 2
+fn read_size<R: Read>(input: &mut R, head: &mut [u8; 2]) -> io::Result<bool> {
+    streams::fill(input, head)
 }
 
 // One run; false at the end of the input.
-fn frame(file: &mut [u8; 65536], letters: &mut [u8; 65536]) -> bool {
+fn frame<R: Read, W: Write>(
+    input: &mut R,
+    output: &mut W,
+    file: &mut [u8; 65536],
+    letters: &mut [u8; 65536],
+) -> io::Result<bool> {
     let mut head = [0u8; 2];
-    if !read_size(&mut head) {
-        return false;
+    if !read_size(input, &mut head)? {
+        return Ok(false);
     }
     let size = two_bytes(head[0], head[1]);
-    if !read_part(file, size) {
-        return false;
+    if !read_part(input, file, size)? {
+        return Ok(false);
     }
-    if !read_size(&mut head) {
-        return false;
+    if !read_size(input, &mut head)? {
+        return Ok(false);
     }
     let count = two_bytes(head[0], head[1]);
-    if !read_part(letters, count) {
-        return false;
+    if !read_part(input, letters, count)? {
+        return Ok(false);
     }
-    run_parts(file, size, letters, count);
-    true
+    run_parts(output, file, size, letters, count)?;
+    Ok(true)
 }
 
 // A million runs at most.
-fn frames() {
+fn frames<R: Read, W: Write>(input: &mut R, output: &mut W) -> io::Result<()> {
     let mut file = [0u8; 65536];
     let mut letters = [0u8; 65536];
-    let mut left: usize = 1000000;
-    while left > 0 {
-        if !frame(&mut file, &mut letters) {
-            return;
+    for _ in 0..1000000 {
+        if !frame(input, output, &mut file, &mut letters)? {
+            break;
         }
-        left -= 1;
     }
+    Ok(())
 }
 
 // The file of the input and the letters of the argument.
-fn one() {
-    let mut letters = io::large_buffer();
-    let count = os::arg(1, &mut letters);
-    if os::errno() != 0 {
-        os::fail(b"the letters");
-        return;
-    }
-    let mut file = io::large_buffer();
-    let size = io::read_full(STDIN_FILENO, &mut file);
-    run(&file[..size], &letters[..count]);
+fn one<R: Read, W: Write>(input: &mut R, output: &mut W, letters: &[u8]) -> io::Result<()> {
+    let mut file = [0u8; 65536];
+    let size = streams::read_full(input, &mut file)?;
+    run(output, &file[..size], letters)
 }
 
-fn main() {
-    if os::arg_count() < 2 {
-        frames();
-    } else {
-        one();
+fn main(rt: HostRuntime) -> io::Result<()> {
+    let mut input = rt.stdin();
+    let mut output = rt.stdout();
+    let mut letters = [0u8; 65536];
+    match rt.arg(1, &mut letters) {
+        Ok(count) => one(&mut input, &mut output, &letters[..count]),
+        Err(FillError::TooLong) => eprintln!(rt; "the letters: File name too long"),
+        Err(FillError::NotPresent) => frames(&mut input, &mut output),
     }
 }
