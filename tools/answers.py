@@ -38,7 +38,7 @@ def declarations(text):
                 u += " " + lines[i].strip()
             uses.append(u)
             i += 1
-        elif not l.strip():
+        elif not l.strip() or re.match(r"-- src/\S+:\d+:\d+$", l):
             i += 1
         else:
             block = [l]
