@@ -1,6 +1,6 @@
 -- The start: the word of the program's term, no memory, nothing stopped. Assumes nothing.
-use Prim.Native.Nat.{ℕ, ◌≤◌}
-use mathlib.Core.Path.{◌≡◌, refl, sym, ap, ◌∙◌}
+use Prim.Native.Nat.{ℕ}
+use mathlib.Core.Path.{◌≡◌, sym, ap, ◌∙◌}
 use mathlib.Core.List.{List, [], map}
 use native.Mathlib.Omega.{arith}
 use lib.Dec.{T}
@@ -8,7 +8,7 @@ use lib.ListN.{length, replicate}
 use Rattle.paper.specs.Lists.{has}
 use Rattle.paper.specs.Term.{Left, still}
 use Rattle.paper.specs.Running.{runs_l}
-use Rattle.paper.specs.Reaction.{Program, State, start_of}
+use Rattle.paper.specs.Reaction.{Program, start_of}
 use Rattle.paper.specs.File.{accepted}
 use Rattle.paper.specs.Table.{flag}
 use Rattle.paper.specs.Calls.{eight, begun}

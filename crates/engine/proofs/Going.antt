@@ -1,6 +1,6 @@
 -- One reaction on a state of the written set: what `react` and `pack` ask holds, and what they answer is the outcome. A state of the set has room for one
 -- event more (`memory-room`), and what is stored after a reaction are events of the program (`stored-known`). Assumes nothing.
-use Prim.Native.Nat.{ℕ, suc, ◌+◌, ◌≤◌, ◌<◌}
+use Prim.Native.Nat.{ℕ, suc, ◌≤◌, ◌<◌}
 use mathlib.Core.Path.{◌≡◌, refl, sym, ap, subst, ◌∙◌}
 use mathlib.Core.Bool.{Bool, true, false, cond, not, ◌||◌}
 use mathlib.Core.List.{List, [], ◌∷◌}
@@ -17,14 +17,13 @@ use Rattle.laws.proofs.Letters.{Once, false-not}
 use Rattle.laws.proofs.Reached.{among-event}
 use Rattle.rewrite.specs.declared.Memory.{Memory}
 use Rattle.rewrite.specs.Stored.{stored}
-use Rattle.rewrite.specs.Steps.{Stands, state}
+use Rattle.rewrite.specs.Steps.{Stands}
 use Rattle.react.specs.declared.Reacted.{Reacted}
 use Rattle.react.specs.States.{Ascends, Modules, state_of, Ready, Fits, Comes}
-use Rattle.coding.specs.Written.{Written}
 use Rattle.coding.specs.Code.{code}
 use Rattle.coding.proofs.Letters.{once-shorter}
 use Rattle.coding.proofs.Closed.{step_in}
-use Rattle.pack.specs.Packing.{Known, Packs, Names}
+use Rattle.pack.specs.Packing.{Packs}
 use Rattle.engine.specs.declared.Answer.{Answer}
 use Rattle.engine.specs.Live.{outcome, Loaded, Kinds, Stated, reacted_to}
 use Rattle.engine.proofs.Names.{among-module}

@@ -1,15 +1,15 @@
 -- A file that was read and accepted: what the reader gives is the program as the engine holds it (`loaded`, `rooted`, `weighted`, `kinds`).
 -- Assumes nothing.
-use Prim.Native.Nat.{ℕ, ◌+◌, ◌-◌, ◌≤◌, ◌<◌}
-use mathlib.Core.Path.{◌≡◌, refl, sym, ap, subst, ◌∙◌}
-use mathlib.Core.Bool.{Bool, true, false, cond}
+use Prim.Native.Nat.{ℕ, ◌+◌, ◌-◌, ◌≤◌}
+use mathlib.Core.Path.{◌≡◌, sym, ap, subst, ◌∙◌}
+use mathlib.Core.Bool.{Bool, false, cond}
 use mathlib.Core.List.{List, map}
 use native.Mathlib.Omega.{arith}
 use lib.Dec.{ltb}
 use lib.ListN.{length, get_or, take, replicate}
 use lib.Seq.{take-append_seam}
 use borrow.Author.Tests.{lt-ltb}
-use Rattle.paper.specs.Lists.{has, keep, from, below}
+use Rattle.paper.specs.Lists.{has, from, below}
 use Rattle.paper.specs.Grammar.{Sequence, module_byte, event_byte, printed}
 use Rattle.paper.specs.Parse.{parse}
 use Rattle.paper.specs.File.{Read, accepted}
@@ -17,12 +17,10 @@ use Rattle.paper.specs.Limits.{tokens}
 use Rattle.paper.specs.Term.{term_s}
 use Rattle.paper.specs.Reaction.{Program}
 use Rattle.paper.specs.Refusals.{adaptive, ascending, program_of, reading}
-use Rattle.laws.specs.Nodes.{count, kind, letter}
-use Rattle.laws.specs.Placed.{placed_s}
-use Rattle.laws.proofs.Ordered.{Clear, checks}
+use Rattle.laws.specs.Nodes.{count, letter}
+use Rattle.laws.proofs.Ordered.{Clear}
 use Rattle.laws.proofs.Tokens.{few-tokens}
-use Rattle.letters.specs.Letters.{names_of}
-use Rattle.nodes.specs.Made.{Made, made}
+use Rattle.nodes.specs.Made.{Made}
 use Rattle.nodes.specs.ByTerm.{made_of}
 use Rattle.nodes.specs.Weights.{node_weight}
 use Rattle.nodes.proofs.ByTerm.{made-of}
@@ -37,7 +35,7 @@ use Rattle.walk.specs.Judging.{Weighted}
 use Rattle.reader.specs.declared.Program.{Program as Given}
 use Rattle.reader.specs.Reads.{weights_in, kinds_of, ReadsAs}
 use Rattle.reader.proofs.Accepts.{get_d-from, length_from}
-use Rattle.engine.specs.Live.{Letters, Loaded, Rooted, Kinds}
+use Rattle.engine.specs.Live.{Loaded, Rooted, Kinds}
 
 -- ---- of a program that was accepted
 

@@ -4,7 +4,6 @@ use mathlib.Core.Path.{◌≡◌, refl, sym, ap, subst, ◌∙◌}
 use mathlib.Core.Bool.{Bool, cond}
 use mathlib.Core.List.{List, []}
 use native.Mathlib.Omega.{arith}
-use lib.Dec.{eqb}
 use lib.ListN.{length, take}
 use borrow.Author.Tests.{eq-eqb, ne_eqb}
 use Rattle.paper.specs.Parse.{parse}
@@ -16,9 +15,8 @@ use Rattle.paper.proofs.Choices.{clash}
 use Rattle.coding.specs.Code.{coding}
 use Rattle.coding.proofs.Accepted.{accepted-fit}
 use Rattle.reader.specs.declared.Program.{Program as Given}
-use Rattle.reader.specs.declared.Verdict.{Verdict}
 use Rattle.reader.specs.declared.Verdict.TheVariants.{Refused, Accepted}
-use Rattle.reader.specs.Reads.{given, ReadsAs}
+use Rattle.reader.specs.Reads.{ReadsAs}
 use Rattle.engine.specs.declared.Answer.{Answer as Told}
 use Rattle.engine.specs.Live.{outcome, Loaded, Rooted, Kinds, Begins, Turns, Reads, CameWith}
 use Rattle.engine.proofs.Loading as loading

@@ -1,11 +1,7 @@
--- `engine::among` meets its contract: n stands among the names if it does from place i on. Assumes nothing.
+-- `engine::among` meets its contract, by the invariant.
 use Rattle.engine.proofs.Names.{has_here, has_on, has_end}
-use Rattle.paper.specs.Lists.{has}
-use lib.ListN.{length, drop}
 use native.Mathlib.Omega.{arith}
-use mathlib.Core.Path.{◌≡◌, refl, sym, ◌∙◌}
-use Prim.Native.Nat.{◌-◌, ◌≤◌}
-use borrow.Author.Rules.{rules}
+use mathlib.Core.Path.{refl, sym, ◌∙◌}
 use Rattle.engine.proofs.among.Goals as goal
 
 pub loop-i-init : goal.loop-i-init

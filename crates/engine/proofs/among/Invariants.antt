@@ -1,11 +1,8 @@
 -- `engine::among` meets its contract: n stands among the names if it does from place i on. Assumes nothing.
-use Rattle.engine.proofs.Names.{has_here, has_on, has_end}
 use Rattle.paper.specs.Lists.{has}
 use lib.ListN.{length, drop}
-use native.Mathlib.Omega.{arith}
-use mathlib.Core.Path.{◌≡◌, refl, sym, ◌∙◌}
+use mathlib.Core.Path.{◌≡◌}
 use Prim.Native.Nat.{◌-◌, ◌≤◌}
-use borrow.Author.Rules.{rules}
 use Rattle.engine.proofs.among.Given as goal
 
 abbrev pub invariant-loop-i : goal.invariant-loop-i

@@ -1,7 +1,6 @@
 -- `engine::begin` meets its contract (`Beginning`). Assumes nothing.
 use Rattle.engine.proofs.Beginning.{asks, first-packs, begins}
 use mathlib.Core.Path.{refl}
-use borrow.Author.Rules.{rules}
 use Rattle.engine.proofs.begin.Goals as goal
 
 pub start_word-s-requires : goal.start_word-s-requires

@@ -1,7 +1,7 @@
 -- `engine::go` meets its contract: the state is one of the written set, so the reaction has room and its state can be coded (`Going`). Assumes nothing.
 use mathlib.Core.Bool.{true, false}
 use mathlib.Core.Path.{◌≡◌, refl, sym, ◌∙◌}
-use Rattle.engine.proofs.Going.{not-true, not-false, letter-small, not-possible, ready, fits, packs, goes}
+use Rattle.engine.proofs.Going.{letter-small, not-possible, ready, fits, packs, goes}
 use Rattle.react.specs.States.{state_of}
 use Rattle.rewrite.specs.Steps.{letter_of}
 use borrow.Author.Rules.{rules}

@@ -2,7 +2,6 @@
 use Rattle.engine.proofs.Names.{module-low, event-low, letter-module, letter-no-module, letter-event, letter-no-event, letter-other}
 use native.Mathlib.Omega.{arith}
 use mathlib.Core.Path.{sym, ◌∙◌}
-use borrow.Author.Rules.{rules}
 use Rattle.engine.proofs.letter_of.Goals as goal
 
 pub overflow_sub-m : goal.overflow_sub-m

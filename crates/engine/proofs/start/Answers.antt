@@ -1,7 +1,6 @@
 -- `engine::start` meets its contract: No. 1, the reader's refusal, or the start (`Whole`). Assumes nothing.
 use Rattle.engine.proofs.Whole.{short-start, came, refused-start, accepted-start}
 use Rattle.engine.specs.Live.{outcome}
-use borrow.Author.Rules.{rules}
 use Rattle.engine.proofs.start.Goals as goal
 
 pub returns-then-live-ne128 : goal.returns-then-live-ne128

@@ -1,7 +1,6 @@
 -- `engine::step` meets its contract: No. 1, the reader's refusal, or the step (`Whole`). Assumes nothing.
 use Rattle.engine.proofs.Whole.{short-step, came, refused-step, accepted-step}
 use Rattle.engine.specs.Live.{outcome}
-use borrow.Author.Rules.{rules}
 use Rattle.engine.proofs.step.Goals as goal
 
 pub returns-then-live-ne128 : goal.returns-then-live-ne128

@@ -1,9 +1,8 @@
 -- `engine::turn_read` meets its contract: the names are the first of their eight places. Assumes nothing.
 use Rattle.engine.proofs.Whole.{few_modules, few_events, reads-turns, reads-loaded, reads-kinds}
-use lib.Seq.{length-take-le}
 use lib.ListN.{length}
 use native.Mathlib.Omega.{arith}
-use mathlib.Core.Path.{◌≡◌, sym}
+use mathlib.Core.Path.{◌≡◌}
 use borrow.Author.Rules.{rules}
 use Rattle.engine.proofs.turn_read.Goals as goal
 
