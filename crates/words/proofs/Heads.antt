@@ -61,9 +61,20 @@ module _ {P : List ℕ} {k l q a : ℕ} (i : ℕ) (ns : Nodes P) (c : Cols P i k
   pub heads-right : (x : ℕ) {r s : Bool} → (k ≡ 8) ⊎ (k ≡ 9) → r ≡ heads x (intr P l) → r ≡ false → s ≡ heads x (intr P q) → s ≡ heads x (intr P i)
   heads-right x d r t s = s ∙ sym (heads-join x d ∙ or-false (heads x (intr P l)) (heads x (intr P q)) (sym r ∙ t))
 
--- the test of a join: `|`, or else `||`
-pub is_join : {k : ℕ} → (k ≡ 8) ⊎ ((k ≡ 8 → ⊥) × (k ≡ 9)) → (k ≡ 8) ⊎ (k ≡ 9)
-is_join e = ⊎_elim (λ w. inl w) (λ w. inr w.1) e
+-- the test of a join: `|` or `||`, or neither
+module _ {k : ℕ} {b : Bool} (came : ((k ≡ 8) × (b ≡ eqb k 8)) ⊎ ((k ≡ 8 → ⊥) × (b ≡ eqb k 9))) where
+  pub is_join : b ≡ true → (k ≡ 8) ⊎ (k ≡ 9)
+  is_join t = ⊎_elim (λ w. inl w.0) (λ w. inr (eqb-true k 9 (sym w.1 ∙ t))) came
+
+  pub no-either : b ≡ false → k ≡ 8 → ⊥
+  no-either t = ⊎_elim (λ w z. eqb-false k 8 (sym w.1 ∙ t) z) (λ w. w.0) came
+
+  pub no_both : b ≡ false → k ≡ 9 → ⊥
+  no_both t = ⊎_elim (λ w z. eqb-false k 8 (sym w.1 ∙ t) w.0) (λ w. eqb-false k 9 (sym w.1 ∙ t)) came
+
+-- the same, where each of the two tests stands by itself
+pub joins-one : {k : ℕ} → (k ≡ 8) ⊎ ((k ≡ 8 → ⊥) × (k ≡ 9)) → (k ≡ 8) ⊎ (k ≡ 9)
+joins-one e = ⊎_elim (λ w. inl w) (λ w. inr w.1) e
 
 pub join-below : {P : List ℕ} {i k l q a : ℕ} → Nodes P → Cols P i k l q a → (k ≡ 8) ⊎ (k ≡ 9) → (l < i) × (q < i)
 join-below ns c d = below_i ns c (λ z. ⊎_elim (λ w. omega arith) (λ w. omega arith) d)
