@@ -19,20 +19,15 @@ bounds-after-m c = omega (arith, c.wide-m.ensures, (ascends-named 0 c.loop-i.i c
 
 pub loop-i-preserved : goal.loop-i-preserved
 loop-i-preserved c =
-    let o = c in
-    let w = o in
-    let d = w in
-    let t = d in
-    let x = t.loop-i in
-    let z = t in
-    let a = z.args in
+    let x = c.loop-i in
+    let a = c.args in
     let n = a.modules.now in
     let st = stopped_of n a.stopped in
-    let h = stopped-flag 0 x.i n a.stopped z.requires.ascend t.loop-i-test.true in (
+    let h = stopped-flag 0 x.i n a.stopped c.requires.ascend c.loop-i-test.true in (
       omega arith,
       (
-        eight-more _ n x.i _ x.orders x.invariant.1.0 (ruled-at order (letter_of a.letter) (runs_by a.before.now) (runs_by a.after.now) st o.order.ensures w.is_own-own.ensures h d.wide-m.ensures) t.loop-i-test.true z.requires.few,
-        eight-more _ n x.i _ x.next x.invariant.1.1 (c.flag.ensures ∙ ap flag (ruled-at stays (letter_of a.letter) (runs_by a.before.now) (runs_by a.after.now) st c.stays.ensures w.is_own-own.ensures h d.wide-m.ensures)) t.loop-i-test.true z.requires.few,
+        eight-more _ n x.i _ x.orders x.invariant.1.0 (ruled-at order (letter_of a.letter) (runs_by a.before.now) (runs_by a.after.now) st c.order.ensures c.is_own-own.ensures h c.wide-m.ensures) c.loop-i-test.true c.requires.few,
+        eight-more _ n x.i _ x.next x.invariant.1.1 (c.flag.ensures ∙ ap flag (ruled-at stays (letter_of a.letter) (runs_by a.before.now) (runs_by a.after.now) st c.stays.ensures c.is_own-own.ensures h c.wide-m.ensures)) c.loop-i-test.true c.requires.few,
       ),
     )
 

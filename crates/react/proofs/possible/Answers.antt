@@ -8,8 +8,7 @@ use Rattle.react.proofs.possible.Goals as goal
 
 pub running-requires : goal.running-requires
 running-requires c =
-    let z = c in
-    (z.requires.0.right, (omega (arith, z.requires.0.long, z.requires.0.within), omega (arith, z.requires.1 _ (ap letter_of c.in-Completion.is))))
+    (c.requires.0.right, (omega (arith, c.requires.0.long, c.requires.0.within), omega (arith, c.requires.1 _ (ap letter_of c.in-Completion.is))))
 
 pub returns-in-Completion : goal.returns-in-Completion
 returns-in-Completion c = λ x e. possible-completion c.requires.0 x (ap letter_of c.in-Completion.is) e c.running.ensures

@@ -8,26 +8,15 @@ use Rattle.react.proofs.react.Goals as goal
 
 pub running_letters-after-requires : goal.running_letters-after-requires
 running_letters-after-requires c =
-    let d = c in
     let a = c.args in
-    left-stands (letter_of a.letter) _ d.advance-next.result (λ q. moved q (letter_of a.letter) (state a.p.now a.w.now a.s) (stored a.memory)) d.advance-next.ensures
+    left-stands (letter_of a.letter) _ c.advance-next.result (λ q. moved q (letter_of a.letter) (state a.p.now a.w.now a.s) (stored a.memory)) c.advance-next.ensures
 
 pub returns-then-start-eq96 : goal.returns-then-start-eq96
 returns-then-start-eq96 c =
-    let t = c in
-    let y = t in
-    let d = y in
-    let b = d in
-    let z = b in
-    let a = z.args in
-    λ q k. comes-ended a.p.now a.w.now _ a.s a.memory q (letter_of a.letter) d.advance-next.result t.give_orders-told.result k.modules_are z.requires.modules b.running_letters-before.ensures y.running_letters-after.ensures (d.advance-next.ensures q k.fugitive_is) t.give_orders-told.ensures c.if-start-eq96.true
+    let a = c.args in
+    λ q k. comes-ended a.p.now a.w.now _ a.s a.memory q (letter_of a.letter) c.advance-next.result c.give_orders-told.result k.modules_are c.requires.modules c.running_letters-before.ensures c.running_letters-after.ensures (c.advance-next.ensures q k.fugitive_is) c.give_orders-told.ensures c.if-start-eq96.true
 
 pub returns : goal.returns
 returns c =
-    let t = c in
-    let y = t in
-    let d = y in
-    let b = d in
-    let z = b in
-    let a = z.args in
-    λ q k. comes-still a.p.now a.w.now _ a.s a.memory q (letter_of a.letter) d.advance-next.result t.give_orders-told.result k.modules_are z.requires.modules b.running_letters-before.ensures y.running_letters-after.ensures (d.advance-next.ensures q k.fugitive_is) t.give_orders-told.ensures c.if-start-eq96.false
+    let a = c.args in
+    λ q k. comes-still a.p.now a.w.now _ a.s a.memory q (letter_of a.letter) c.advance-next.result c.give_orders-told.result k.modules_are c.requires.modules c.running_letters-before.ensures c.running_letters-after.ensures (c.advance-next.ensures q k.fugitive_is) c.give_orders-told.ensures c.if-start-eq96.false

@@ -18,15 +18,12 @@ bounds-runs-m c = omega (arith, c.wide-m.ensures, (ascends-named 0 c.loop-i.i c.
 
 pub loop-i-preserved : goal.loop-i-preserved
 loop-i-preserved c =
-    let t = c in
-    let x = t.loop-i in
-    let y = t in
-    let z = y in
-    let a = z.args in
+    let x = c.loop-i in
+    let a = c.args in
     let n = a.modules.now in
-    let l = (ascends-named 0 x.i n z.requires.1.ascend t.loop-i-test.true).1 in
-    let r = ap (runs_by y.running_letters-runs.result) c.wide-m.ensures ∙ y.running_letters-runs.ensures (get_or n x.i 0) l in
-    (omega arith, eight-more (λ (m : ℕ). flag (runs_l m (state a.p.now a.w.now a.s))) n x.i _ x.flags x.invariant.1 (c.flag.ensures ∙ ap flag r) t.loop-i-test.true z.requires.1.few)
+    let l = (ascends-named 0 x.i n c.requires.1.ascend c.loop-i-test.true).1 in
+    let r = ap (runs_by c.running_letters-runs.result) c.wide-m.ensures ∙ c.running_letters-runs.ensures (get_or n x.i 0) l in
+    (omega arith, eight-more (λ (m : ℕ). flag (runs_l m (state a.p.now a.w.now a.s))) n x.i _ x.flags x.invariant.1 (c.flag.ensures ∙ ap flag r) c.loop-i-test.true c.requires.1.few)
 
 pub returns : goal.returns
 returns c = eight-all _ c.args.modules.now c.loop-i.i c.loop-i.flags c.loop-i.invariant.1 c.loop-i-test.false
