@@ -1,17 +1,17 @@
 -- The states found, by their bytes: a state of the written set stands where its bytes do, so what is enrolled by its bytes is what discovery finds.
 -- Assumes nothing.
-use Prim.Native.Nat.{ℕ, zero, suc, ◌+◌, ◌≤◌, ◌<◌}
+use Prim.Native.Nat.{ℕ, suc, ◌+◌, ◌≤◌, ◌<◌}
 use mathlib.Core.Path.{◌≡◌, refl, sym, ap, subst, ◌∙◌}
 use mathlib.Core.Bool.{Bool, true, false, true≢false}
 use mathlib.Core.List.{List, [], ◌∷◌, ◌++◌, map, map-append}
 use mathlib.Core.Logic.{⊎_elim}
 use native.Mathlib.Omega.{arith}
-use lib.Dec.{T, ltb, eqb}
+use lib.Dec.{T}
 use lib.ListN.{length, length-append, length-map}
 use Rattle.paper.specs.Lists.{choose, eq_l}
 use Rattle.paper.specs.Rewriting.{Letter}
 use Rattle.paper.specs.Reaction.{Program, State, possible, reaction}
-use Rattle.paper.specs.Discovery.{eq_s, has_s, finds, Among, letters}
+use Rattle.paper.specs.Discovery.{eq_s, has_s}
 use Rattle.paper.specs.Table.{number_of, entry_of}
 use Rattle.paper.specs.Calls.{eight}
 use Rattle.paper.proofs.Choices.{by-test, clash}
@@ -23,12 +23,11 @@ use Rattle.coding.specs.Written.{Written}
 use Rattle.coding.specs.Code.{code}
 use Rattle.coding.proofs.Fit.{Fit}
 use Rattle.coding.proofs.Coded.{code_one}
-use Rattle.coding.proofs.Closed.{step_in}
 use Rattle.layout.proofs.Ranged.{number-has, number-listed, number-front}
 use Rattle.emit.specs.Entries.{orders_from, entry_number}
 use Rattle.slots.specs.declared.Enrolled.{Enrolled}
 use Rattle.slots.specs.Slots.{Holds, number_in, enrolled, Enrolls}
-use Rattle.slots.proofs.Enrolling.{enrolled-known, enrolled-full, enrolled-new}
+use Rattle.slots.proofs.Enrolling.{enrolled-known, enrolled-new}
 use Rattle.slots.proofs.Numbers.{number-within}
 use Rattle.discover.specs.Finding.{entered, met, Numbered, Seen, Arrives}
 use Rattle.discover.proofs.Turning.{after, finds-one}

@@ -2,13 +2,12 @@
 use Prim.Native.Nat.{ℕ, ◌+◌, ◌≤◌, ◌<◌}
 use mathlib.Core.Path.{◌≡◌, refl, sym, ap, subst, ◌∙◌}
 use mathlib.Core.Bool.{Bool, true, false, cond}
-use mathlib.Core.List.{List, ◌∷◌, [], map}
+use mathlib.Core.List.{List, map}
 use native.Mathlib.Omega.{arith}
 use lib.ListN.{length, length-map}
 use Rattle.paper.specs.Rewriting.{Letter}
 use Rattle.paper.specs.Reaction.{Program, State, possible, reaction}
 use Rattle.paper.specs.Calls.{Lived, eight, lives_on, not_lived}
-use Rattle.paper.proofs.Choices.{clash}
 use Rattle.rewrite.specs.declared.Memory.{Memory}
 use Rattle.react.specs.States.{state_of}
 use Rattle.coding.specs.Code.{code}

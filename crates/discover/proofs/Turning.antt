@@ -1,14 +1,12 @@
 -- Discovery turn by turn and letter by letter: one letter more, one turn more, and what holds when no state waits any more. Assumes nothing.
-use Prim.Native.Nat.{ℕ, zero, suc, ◌+◌, ◌≤◌, ◌<◌}
-use mathlib.Core.Path.{◌≡◌, refl, sym, ap, subst, ◌∙◌}
+use Prim.Native.Nat.{ℕ, zero, suc, ◌+◌}
+use mathlib.Core.Path.{◌≡◌, refl, sym, ap, ◌∙◌}
 use mathlib.Core.Bool.{Bool, true, false}
 use mathlib.Core.List.{List, [], ◌∷◌, ◌++◌, append_assoc, append-nil}
 use native.Mathlib.Omega.{arith}
-use lib.Dec.{T}
-use lib.ListN.{length, take, drop, length-append}
 use Rattle.paper.specs.Lists.{choose}
 use Rattle.paper.specs.Rewriting.{Letter}
-use Rattle.paper.specs.Reaction.{Program, State, start_of, possible, reaction}
+use Rattle.paper.specs.Reaction.{Program, State, possible, reaction}
 use Rattle.paper.specs.Discovery.{letters, has_s, finds, Found, discover}
 
 module _ (p : Program) where

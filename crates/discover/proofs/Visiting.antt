@@ -1,7 +1,7 @@
 -- The turn of a state that lies in the working slice: its bytes are its code, so what they are unpacked to is the state. Assumes nothing.
 use Prim.Native.Nat.{ℕ, zero, suc, ◌+◌, ◌-◌, ◌*◌, ◌≤◌, ◌<◌}
 use mathlib.Core.Path.{◌≡◌, refl, sym, ap, subst, ◌∙◌}
-use mathlib.Core.Bool.{Bool, true, false, true≢false}
+use mathlib.Core.Bool.{Bool, true, false}
 use mathlib.Core.List.{List, [], ◌∷◌, map}
 use mathlib.Core.Option.{Option, none, some}
 use native.Mathlib.Omega.{arith}
@@ -9,14 +9,13 @@ use native.Mathlib.Nat.{mul-le-mul, add-mul}
 use lib.Dec.{ltb}
 use lib.ListN.{length, get_or, take, drop, length-drop, length-map}
 use lib.Seq.{length-take-le}
-use Rattle.paper.specs.Term.{Left}
 use Rattle.paper.specs.Reaction.{Program, State}
 use Rattle.paper.specs.Refusals.{most_parts, parts_of}
 use Rattle.paper.proofs.Choices.{clash}
 use Rattle.paper.proofs.Equal.{eq_s-refl}
 use Rattle.laws.proofs.Members.{Has, has-head, has-tail}
 use Rattle.rewrite.specs.Steps.{Stands, state}
-use Rattle.react.specs.States.{Flags, state_of}
+use Rattle.react.specs.States.{state_of}
 use Rattle.coding.specs.Written.{Written}
 use Rattle.coding.specs.Code.{code, decode}
 use Rattle.coding.proofs.Fit.{Fit}
