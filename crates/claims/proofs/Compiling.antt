@@ -168,12 +168,12 @@ module _ (e : Edition) (file output work : List ℕ) where
       front : take its.size its.output ≡ t
       front = ap (λ (c : Compiled). take c.size c.output) i ∙ take-append_seam t (drop (length t) output)
 
-      is_table : is_table t ≡ true
-      is_table = subst (λ (x : List ℕ). is_table x ≡ true) front answered.right.is_table
+      is-table : is_table t ≡ true
+      is-table = subst (λ (x : List ℕ). is_table x ≡ true) front answered.right.is_table
 
       small : length t ≤ 26639
       small =
-          let w = table-written t (written-bytes (table_of q ss)) is_table in
+          let w = table-written t (written-bytes (table_of q ss)) is-table in
           subst (λ (x : List ℕ). length x ≤ 26639) w.1 (written-short (table_in t) w.0)
 
   program-ends : (TooShort output work → ⊥) → (q : Program) → reading parse e file ≡ accepted q

@@ -29,8 +29,7 @@ use Rattle.table.specs.Answers.{stepped}
 use Rattle.engine.specs.declared.Answer.{Answer as LiveAnswer}
 use Rattle.engine.specs.Live as engine
 use Rattle.compiler.specs.declared.Compiled.{Compiled}
-use Rattle.compiler.specs.Compiling.{outcome}
-use Rattle.claims.specs.Contracts.{Compiles, CompilesBasic, CompilesAdaptive, TableStarts, TableSteps, LiveStarts, LiveSteps}
+use Rattle.claims.specs.Promises.{Compiles, CompilesBasic, CompilesAdaptive, TableStarts, TableSteps, LiveStarts, LiveSteps}
 use Rattle.claims.specs.Faults.{ReadingRefuses, last_number, Accepts}
 use Rattle.claims.specs.Exactly.{CompileRefuses, NotTable, TableStartRefuses, TableStepRefuses, LiveStartRefuses, LiveStepRefuses, Exactly, CompileLeaves, TableLeaves, LiveLeaves}
 use Rattle.claims.proofs.Reading.{reading-refused, reading-accepted, refused-reading, accepted-reading}

@@ -19,7 +19,7 @@ use Rattle.engine.specs.declared.Answer.{Answer as LiveAnswer}
 use Rattle.engine.specs.Live as engine
 use Rattle.compiler.specs.declared.Compiled.{Compiled}
 use Rattle.compiler.specs.Compiling as compiler
-use Rattle.claims.specs.Contracts.{Compiles, CompilesBasic, CompilesAdaptive, TableStarts, TableSteps, LiveStarts, LiveSteps}
+use Rattle.claims.specs.Promises.{Compiles, CompilesBasic, CompilesAdaptive, TableStarts, TableSteps, LiveStarts, LiveSteps}
 
 -- ---- an outcome has one answer and one content of each buffer
 

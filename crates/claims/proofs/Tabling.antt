@@ -69,8 +69,8 @@ is-not t h =
     let r : Right t = record { layout = a; count = b; name = c; next = d; padding = e; long = f; zeros = g; event = i; start = j } in
     absurd (true≢false (sym (right-table t r) ∙ h)))))))))))
 
-is_table : (t : List ℕ) → (NotTable t → ⊥) → is_table t ≡ true
-is_table t f = either (is_table t) (λ q. q) (λ q. absurd (f (is-not t q)))
+is-table : (t : List ℕ) → (NotTable t → ⊥) → is_table t ≡ true
+is-table t f = either (is_table t) (λ q. q) (λ q. absurd (f (is-not t q)))
 
 -- the bytes that are not the writing of any table in range
 pub not_written : (t : List ℕ) → Bytes t → NotTable t ↔ ((a : Table) → InRange a → written a ≡ t → ⊥)
@@ -172,11 +172,11 @@ module _ (t : List ℕ) (state letter : ℕ) where
 
   pub step-sound : TableSound (table_step t state letter) (TableStepRefuses t state letter)
   step-sound n p (step_19 h) = (by_tests false _ _ (not_table t h) refl refl, (refl, omega arith))
-  step-sound n p (step_20 f h) = (by_tests true false _ (is_table t f) (le-ltb state (state_count t) h) refl, (refl, omega arith))
+  step-sound n p (step_20 f h) = (by_tests true false _ (is-table t f) (le-ltb state (state_count t) h) refl, (refl, omega arith))
   step-sound n p (step_21 f s h) =
-      (by_tests true true none (is_table t f) (lt-ltb state (state_count t) s) (none-letter (table_modules t) (table_events t) letter h), (refl, omega arith))
+      (by_tests true true none (is-table t f) (lt-ltb state (state_count t) s) (none-letter (table_modules t) (table_events t) letter h), (refl, omega arith))
   step-sound n p (step_22 f s m h q z) =
-      let is = is_table t f in (
+      let is = is-table t f in (
         by_tests true true (some m) is (lt-ltb state (state_count t) s) (own-index is m h q its refl) ∙ by-entry m false (ap (λ (k : ℕ). eqb k 1) z),
         (refl, omega arith),
       )

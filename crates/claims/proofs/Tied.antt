@@ -1,4 +1,4 @@
--- The contracts that the claims speak of are the calls' own, as the checker has them of the source: what a call ensures is the statement of `Contracts` on
+-- The contracts that the claims speak of are the calls' own, as the checker has them of the source: what a call ensures is the statement of `Promises` on
 -- the bytes at its entry and at its exit, and it requires nothing. By `refl`: a change of either side is refused here. Assumes nothing.
 use mathlib.Core.Path.{◌≡◌, refl}
 use contract.Lifetimes.{Lfts}
@@ -9,7 +9,7 @@ use borrow.Fn.Kinds.{ended_of}
 use Rattle.table.specs.contracts.start as table-start
 use Rattle.table.proofs.start.Kinds as table-start-kinds
 use Rattle.table.proofs.start.Reads as table-start-reads
-use Rattle.table.specs.contracts.step as step_of_table
+use Rattle.table.specs.contracts.step as table-step
 use Rattle.table.proofs.step.Kinds as table-step-kinds
 use Rattle.table.proofs.step.Reads as table-step-reads
 use Rattle.engine.specs.contracts.start as live-start
@@ -24,7 +24,7 @@ use Rattle.compiler.proofs.compile_basic.Reads as compile-basic-reads
 use Rattle.compiler.specs.contracts.compile_adaptive as compile-adaptive
 use Rattle.compiler.proofs.compile_adaptive.Kinds as compile-adaptive-kinds
 use Rattle.compiler.proofs.compile_adaptive.Reads as compile-adaptive-reads
-use Rattle.claims.specs.Contracts.{CompilesBasic, CompilesAdaptive, TableStarts, TableSteps, LiveStarts, LiveSteps}
+use Rattle.claims.specs.Promises.{CompilesBasic, CompilesAdaptive, TableStarts, TableSteps, LiveStarts, LiveSteps}
 
 -- In each: the arguments a, the answer x and what is there at the exit s.
 module _ (w : World) where
@@ -56,7 +56,7 @@ module _ (w : World) where
     pub table-start-free : table-start-reads.requires κs a tt w ≡ ⊤ₛ
     table-start-free = refl
 
-  module _ (κs : Lfts 1) (a : ArgsD step_of_table.signature κs) (x : ResD step_of_table.signature κs)
+  module _ (κs : Lfts 1) (a : ArgsD table-step.signature κs) (x : ResD table-step.signature κs)
       (s : AtExit (ended_of 1 table-step-kinds.ps table-step-kinds.r) κs) where
     pub table-step-tied : table-step-reads.ensures κs a tt x s w ≡ ⌜ TableSteps a.0.now a.1.0 a.1.1.0 x ⌝
     table-step-tied = refl

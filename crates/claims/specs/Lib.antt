@@ -1,6 +1,6 @@
 -- What the three demands speak of.
 -- ---- demand 1: the calls' contracts, and when each call refuses
-pub mod Contracts
+pub mod Promises
 pub mod Lines
 pub mod Faults
 pub mod Exactly
