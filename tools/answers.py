@@ -1,7 +1,7 @@
 #!/usr/bin/env python3
 """Turns a proof that walks the code by hand (Proof.antt) into Invariants.antt and Answers.antt, by the names that the check lists.
 
-usage: cd crates/NAME && rt check --generated /tmp/names --old-names, then python3 ../../tools/answers.py /tmp/names/names.json [FUNCTION..]
+usage: cd crates/NAME && rt check --generated OUT --old-names, then python3 ../../tools/answers.py OUT/names.json [FUNCTION..]
 
 Each goal keeps its proof: the goal's name, the steps of the context, which now lie side by side, and the arguments are respelled. A goal that the check
 proves by itself goes. What it cannot turn stays as it was, with a line 'left:'. Proof.antt becomes Proof.antt.old, which is not committed.
