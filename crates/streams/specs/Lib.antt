@@ -1,0 +1,2 @@
+-- What an error leaves of a buffer that was being filled.
+pub mod Front
