@@ -1,0 +1,2 @@
+-- What a refusal and an edition stand for in document 01.
+pub mod Refusals
