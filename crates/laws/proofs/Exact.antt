@@ -3,7 +3,7 @@
 -- the other. Assumes nothing.
 use Prim.Native.Nat.{◌<◌}
 use mathlib.Core.Path.{◌≡◌, refl, sym, ◌∙◌, subst}
-use mathlib.Core.Bool.{Bool, true, false, cond, true≢false}
+use mathlib.Core.Bool.{Bool, true, false, true≢false}
 use mathlib.Core.List.{List, [], ◌∷◌}
 use mathlib.Core.Logic.{◌↔◌, ⊎_elim}
 use native.Mathlib.Omega.{arith}
@@ -12,7 +12,7 @@ use lib.Dec.{T, ltb}
 use lib.ListN.{length}
 use Rattle.paper.specs.File.{Answer, refused, accepted, unless, where_if}
 use Rattle.paper.specs.Reaction.{Program, State}
-use Rattle.paper.specs.Discovery.{Reach, has_s, most_states, Found, discovered}
+use Rattle.paper.specs.Discovery.{Reach, has_s, most_states, discovered}
 use Rattle.paper.specs.Refusals.{most_parts, parts_of, any_too_large, has_too_many, discovering}
 use Rattle.paper.proofs.Equal.{eq_s-sound, eq_s-refl}
 use Rattle.paper.proofs.Choices.{clash}

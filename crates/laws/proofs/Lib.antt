@@ -11,6 +11,7 @@ pub mod Weighs
 pub mod Tokens
 pub mod Bounded
 pub mod Names
+pub mod Has
 -- ---- discovery and the reachable states
 pub mod Members
 pub mod Discovers

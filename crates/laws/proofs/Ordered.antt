@@ -2,8 +2,8 @@
 -- The checks of a program are a list (`checks`), and the answer is the first of them whose condition holds, or the program where none does
 -- (`programmed-first`, `first-refuses`, `first-accepts`). Assumes nothing.
 use Prim.Native.Nat.{ℕ}
-use mathlib.Core.Path.{◌≡◌, refl, sym, ap, ◌∙◌}
-use mathlib.Core.List.{List, [], ◌∷◌, ◌++◌}
+use mathlib.Core.Path.{◌≡◌, refl, ap, ◌∙◌}
+use mathlib.Core.List.{List, [], ◌∷◌}
 use mathlib.Core.Logic.{◌↔◌}
 use mathlib.Core.Option.{Option, none, some}
 use Rattle.paper.specs.Bytes.{is_module, is_event}
@@ -11,7 +11,6 @@ use Rattle.paper.specs.Grammar.{Sequence, event_byte}
 use Rattle.paper.specs.Parse.{program}
 use Rattle.paper.specs.File.{Answer, refused, accepted, unless, Value, Read, letters_of}
 use Rattle.paper.specs.Limits.{over96, too_deep, too_starred, unlisted, unused, ninth, shared_module, shared_event, braces_joined}
-use Rattle.paper.specs.Reaction.{Program}
 use Rattle.paper.specs.Refusals.{Edition, basic, adaptive, ascending, fugitive_text, line_of, program_of, for_edition, within_limits, with_letters, programmed}
 use Rattle.paper.proofs.Choices.{clash}
 
