@@ -1,8 +1,8 @@
 // A program as the engine holds it: its nodes, each with the numbers of its parts, which stand below it; and what else is read of a file.
 #![tactic(auto)]
 
-ghost use Rattle.std.specs.Prelude.{◌≡◌, ◌≤◌, ◌<◌, ℕ, List, length, get_or};
-ghost use Rattle.laws.specs.Nodes.{count};
+ghost use Rattle.std.specs.Prelude.{◌≡◌, ◌≤◌, ◌<◌};
+ghost use Rattle.laws.specs.Nodes.{kind, left, right, letter, count};
 ghost use Rattle.program.specs.Rows.{alone, row_of, appended, kind_in, left_in, right_in, letter_in};
 
 use arrayvec::ArrayVec;
@@ -23,11 +23,23 @@ pub enum Node {
     Both(u8, u8),
 }
 
+impl Node {
+    // The letter of a name or a treatment, 0 for what has none.
+    pub fn letter(self) -> u8
+        ensures { result ≡ letter_in self }
+    {
+        match self {
+            Node::Module(letter) | Node::Event(letter) | Node::Treat(letter, _) => letter,
+            _ => 0,
+        }
+    }
+}
+
 // The nodes of a program, no two alike; node 0 is `1`. Clauses see the table of `laws`.
 #[derive(Drop)]
 pub struct Nodes {
     rows: [Node; 192],
-    count: usize,
+    len: usize,
 }
 
 impl Model for Nodes {
@@ -38,9 +50,9 @@ impl Model for Nodes {
     ghost use Rattle.program.specs.Rows.{columns};
     ghost use Rattle.program.specs.declared.Node.TheVariants.{Module, One};
 
-    ghost view = { λ t. columns t.rows t.count };
+    ghost view = { λ t. columns t.rows t.len };
 
-    ghost invariant = { λ t. (length t.rows ≡ 192) × (1 ≤ t.count) × (t.count ≤ 192) × (get_or t.rows 0 (Module 0) ≡ One) };
+    ghost invariant = { λ t. (length t.rows ≡ 192) × (1 ≤ t.len) × (t.len ≤ 192) × (get_or t.rows 0 (Module 0) ≡ One) };
 }
 
 impl Nodes {
@@ -50,22 +62,39 @@ impl Nodes {
     {
         let mut rows = [Node::Module(0); 192];
         rows[0] = Node::One;
-        Nodes { rows, count: 1 }
+        Nodes { rows, len: 1 }
     }
 
     // How many there are.
     pub fn count(&self) -> usize
-        ensures { result ≡ count self.now }
+        ensures count { result ≡ count self.now }
+        ensures some { 1 ≤ result }
+        ensures few { result ≤ 192 }
     {
-        self.count
+        self.len
     }
 
     // Node j.
     pub fn node(&self, j: usize) -> Node
         requires { j < 192 }
-        ensures { result ≡ row_of self.now j }
+        ensures row { result ≡ row_of self.now j }
+        ensures columns { (kind self.now j ≡ kind_in result) × (left self.now j ≡ left_in result) × (right self.now j ≡ right_in result) }
+        ensures letter { 1 ≤ j → letter self.now j ≡ letter_in result }
+        ensures first { j ≡ 0 → result ≡ Node.One }
     {
         self.rows[j]
+    }
+
+    // The letter of node j; the table has the count of nodes where node 0, which has none, would have it.
+    pub fn letter(&self, j: usize) -> u8
+        requires { j < 192 }
+        ensures { result ≡ letter self.now j }
+    {
+        if j == 0 {
+            self.count() as u8
+        } else {
+            self.node(j).letter()
+        }
     }
 
     // One node more, behind the others.
@@ -73,9 +102,9 @@ impl Nodes {
         requires { count self.old < 192 }
         ensures { self.new ≡ appended self.old (kind_in node) (left_in node) (right_in node) (letter_in node) }
     {
-        let Nodes { rows, count } = self;
-        rows[*count] = node;
-        *count += 1;
+        let Nodes { rows, len } = self;
+        rows[*len] = node;
+        *len += 1;
     }
 }
 

@@ -1,5 +1,5 @@
 use Rattle.program.proofs.Columns.{count-view}
 use Rattle.program.proofs.Nodes.count.Goals as goal
 
-pub returns : goal.returns
-returns c = count-view _ _ _ c.self.invariant.0 c.self.view_is
+pub returns-clause-count : goal.returns-clause-count
+returns-clause-count c = count-view _ _ _ c.self.invariant.0 c.self.view_is
