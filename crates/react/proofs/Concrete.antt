@@ -8,7 +8,7 @@ use Rattle.words.proofs.Concrete.{nodes, word, table}
 use Rattle.rewrite.proofs.Concrete.{stands}
 use Rattle.react.specs.States.{Ascends, Ready}
 
-pub ready : Ready nodes (0 ∷ []) (replicate 94 0 ++ word) 94 (replicate 96 0) (record { events = replicate 8 0; count = 0 }) (occurrence 4)
+pub ready : Ready nodes (0 ∷ []) (replicate 94 0 ++ word) (record { start = 94; memory = record { events = replicate 8 0; count = 0 }; stopped = replicate 8 0 }) (replicate 96 0) (occurrence 4)
 unfolding Ascends
 ready = record {
   table = table;

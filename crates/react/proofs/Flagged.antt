@@ -9,8 +9,9 @@ use native.Mathlib.Numerals.{add-one}
 use native.Mathlib.Omega.{arith}
 use lib.Dec.{eqb}
 use lib.ListN.{length, get_or, take, set, replicate, length-map, length-take, get_or-replicate, get_or-append, get_or-eq_default}
-use lib.Seq.{take-suc, take_all, length-take-le, get_or-take, get_or-append-add}
+use lib.Seq.{take-suc, length-take-le, get_or-take, get_or-append-add}
 use borrow.Author.Tests.{eq-eqb, ne_eqb}
+use mir.Val.{bool_byte}
 use Rattle.paper.specs.Lists.{with_if, has, keep, from, below}
 use Rattle.paper.specs.Rewriting.{Letter}
 use Rattle.paper.specs.Reaction.{is_own}
@@ -29,6 +30,10 @@ ascends-named k zero (m ∷ ms) a h = (a.0, a.1.0)
 ascends-named k (suc i) (m ∷ ms) a h =
     let r = ascends-named (suc m) i ms a.1.1 (omega arith) in
     (omega (arith, r.0, a.0), r.1)
+
+-- a module is one of a to z
+pub module-below : (ms : List ℕ) (i : ℕ) → Modules ms → i < length ms → get_or ms i 0 < 26
+module-below ms i h l = (ascends-named 0 i ms h.ascend l).1
 
 -- from a lower letter on too
 ascends-down : (k : ℕ) (ms : List ℕ) → Ascends (suc k) ms → Ascends k ms
@@ -86,6 +91,11 @@ stopped-flag k (suc i) (m ∷ ms) (f ∷ fs) a h =
     let n = ascends-named (suc m) i ms a.1.1 (omega arith) in
     stopped-flag (suc m) i ms fs a.1.1 (omega arith)
     ∙ sym (has_other (get_or ms i 0) m (stopped_of ms fs) (eqb f 1) (ne_eqb (get_or ms i 0) m (λ e. omega (arith, n.0))))
+
+-- the byte of a flag
+pub flag_byte : (b : Bool) → bool_byte b ≡ flag b
+flag_byte true = refl
+flag_byte false = refl
 
 flag_one : (b : Bool) → eqb (flag b) 1 ≡ b
 flag_one true = refl
@@ -159,6 +169,3 @@ eight-more g ms i v o e f h l =
     let t : take (i + 1) ms ≡ take i ms ++ (get_or ms i 0 ∷ []) = ap (λ (k : ℕ). take k ms) (add-one i) ∙ take-suc ms i 0 h in
     ap₂ (λ (x : List ℕ) (y : ℕ). set x i y) e f
     ∙ (eight-set (map g (take i ms)) i (g (get_or ms i 0)) n (omega arith) ∙ ap eight (sym (ap (map g) t ∙ map-append g (take i ms) (get_or ms i 0 ∷ []))))
-
-pub eight-all : (g : ℕ → ℕ) (ms : List ℕ) (i : ℕ) (o : List ℕ) → o ≡ eight (map g (take i ms)) → length ms ≤ i → o ≡ eight (map g ms)
-eight-all g ms i o e h = e ∙ ap (λ (l : List ℕ). eight (map g l)) (take_all i ms h)

@@ -7,7 +7,7 @@ use mathlib.Core.Path.{◌≡◌, refl, ap, sym, ◌∙◌}
 use native.Mathlib.Numerals.{add-one}
 use native.Mathlib.Omega.{arith}
 use lib.Dec.{eqb}
-use lib.ListN.{length, drop, get_or, set, length-set}
+use lib.ListN.{length, drop, get_or, set, replicate, length-set, get_or-replicate}
 use lib.Seq.{drop-cons, get_or-set_same, get_or-set_other}
 use borrow.Author.Tests.{eqb-true, eqb-false}
 use Rattle.paper.specs.Term.{Term}
@@ -18,29 +18,29 @@ use Rattle.words.proofs.Runs.{runs_here, runs_on, runs-end}
 use Rattle.rewrite.specs.Steps.{left_of, state, Stands}
 use Rattle.react.specs.States.{Running}
 
--- what runs from place s on: what the flags say, and what runs from i on
-pub record Seen (P S : List ℕ) (s : ℕ) (flags : List Bool) (i : ℕ) : Type 0 where
-  pub within : i ≤ length S
-  pub right : Right P (drop i S)
+-- what runs in the word U: what the flags say, and what runs from its i-th unit on
+pub record Seen (P U : List ℕ) (flags : List Bool) (i : ℕ) : Type 0 where
+  pub within : i ≤ length U
+  pub right : Right P (drop i U)
   pub wide : length flags ≡ 26
-  pub so_far : (m : ℕ) → m < 26 → (get_or flags m false || any_runs m (terms P (drop i S))) ≡ any_runs m (terms P (drop s S))
+  pub so_far : (m : ℕ) → m < 26 → (get_or flags m false || any_runs m (terms P (drop i U))) ≡ any_runs m (terms P U)
 
-pub seen_none : (P S : List ℕ) (s : ℕ) (flags : List Bool) → s ≤ length S → Right P (drop s S) → length flags ≡ 26 → ((m : ℕ) → m < 26 → get_or flags m false ≡ false) → Seen P S s flags s
-seen_none P S s flags h r w z = record {
-  within = h;
+pub seen_none : (P U : List ℕ) → Right P U → Seen P U (replicate 26 false) 0
+seen_none P U r = record {
+  within = omega arith;
   right = r;
-  wide = w;
-  so_far = λ m k. ap (λ (b : Bool). b || any_runs m (terms P (drop s S))) (z m k);
+  wide = refl;
+  so_far = λ m k. ap (λ (b : Bool). b || any_runs m (terms P U)) (get_or-replicate 26 m false false k);
 }
 
-module _ {P S : List ℕ} {s : ℕ} {flags : List Bool} {i : ℕ} (n : Seen P S s flags i) (h : i < length S) where
+module _ {P U : List ℕ} {flags : List Bool} {i : ℕ} (n : Seen P U flags i) (h : i < length U) where
   abbrev unit : ℕ
-  unit = get_or S i 0
+  unit = get_or U i 0
 
-  parts : Right P (drop (i + 1) S) × Fine P (mark unit) (terms P (drop (i + 1) S))
+  parts : Right P (drop (i + 1) U) × Fine P (mark unit) (terms P (drop (i + 1) U))
   unfolding Right
   parts =
-      let e : drop i S ≡ unit ∷ drop (i + 1) S = drop-cons S i 0 h ∙ ap (λ (k : ℕ). unit ∷ drop k S) (sym (add-one i)) in
+      let e : drop i U ≡ unit ∷ drop (i + 1) U = drop-cons U i 0 h ∙ ap (λ (k : ℕ). unit ∷ drop k U) (sym (add-one i)) in
       rw e at n.right
 
   -- a module's unit is that of one of a to z
@@ -49,11 +49,11 @@ module _ {P S : List ℕ} {s : ℕ} {flags : List Bool} {i : ℕ} (n : Seen P S 
   seen-letter k = rw (mark-mod unit k) at parts.1
 
   -- the module m of another unit: nothing changes
-  passed : (m : ℕ) → m < 26 → (unit ≡ m + 770 → ⊥) → (get_or flags m false || any_runs m (terms P (drop (i + 1) S))) ≡ any_runs m (terms P (drop s S))
+  passed : (m : ℕ) → m < 26 → (unit ≡ m + 770 → ⊥) → (get_or flags m false || any_runs m (terms P (drop (i + 1) U))) ≡ any_runs m (terms P U)
   passed m k d =
-      ap (λ (b : Bool). get_or flags m false || b) (sym (runs_on P S m i h n.right d).1) ∙ n.so_far m k
+      ap (λ (b : Bool). get_or flags m false || b) (sym (runs_on P U m i h n.right d).1) ∙ n.so_far m k
 
-  pub seen_other : (770 ≤ unit → ⊥) → Seen P S s flags (i + 1)
+  pub seen_other : (770 ≤ unit → ⊥) → Seen P U flags (i + 1)
   seen_other d = record {
     within = omega arith;
     right = parts.0;
@@ -61,19 +61,19 @@ module _ {P S : List ℕ} {s : ℕ} {flags : List Bool} {i : ℕ} (n : Seen P S 
     so_far = λ m k. passed m k (λ e. d (omega arith));
   }
 
-  set-by : (m : ℕ) → m < 26 → 770 ≤ unit → (b : Bool) → eqb m (unit - 770) ≡ b → (get_or (set flags (unit - 770) true) m false || any_runs m (terms P (drop (i + 1) S))) ≡ any_runs m (terms P (drop s S))
+  set-by : (m : ℕ) → m < 26 → 770 ≤ unit → (b : Bool) → eqb m (unit - 770) ≡ b → (get_or (set flags (unit - 770) true) m false || any_runs m (terms P (drop (i + 1) U))) ≡ any_runs m (terms P U)
   set-by m k l true e =
       let z : unit - 770 ≡ m = sym (eqb-true m (unit - 770) e) in
       let t : get_or (set flags (unit - 770) true) m false ≡ true = rw z (get_or-set_same flags m true false (omega (arith, n.wide))) in
-      let r : any_runs m (terms P (drop i S)) ≡ true = runs_here P S m i h (omega arith) in
-      ap (λ (b : Bool). b || any_runs m (terms P (drop (i + 1) S))) t
+      let r : any_runs m (terms P (drop i U)) ≡ true = runs_here P U m i h (omega arith) in
+      ap (λ (b : Bool). b || any_runs m (terms P (drop (i + 1) U))) t
       ∙ (sym (ap (λ (b : Bool). get_or flags m false || b) r ∙ or-true (get_or flags m false)) ∙ n.so_far m k)
   set-by m k l false e =
       let z : m ≡ unit - 770 → ⊥ = eqb-false m (unit - 770) e in
-      ap (λ (b : Bool). b || any_runs m (terms P (drop (i + 1) S))) (get_or-set_other flags (unit - 770) m true false z)
+      ap (λ (b : Bool). b || any_runs m (terms P (drop (i + 1) U))) (get_or-set_other flags (unit - 770) m true false z)
       ∙ passed m k (λ q. z (omega arith))
 
-  pub seen_more : 770 ≤ unit → Seen P S s (set flags (unit - 770) true) (i + 1)
+  pub seen_more : 770 ≤ unit → Seen P U (set flags (unit - 770) true) (i + 1)
   seen_more l = record {
     within = omega arith;
     right = parts.0;
@@ -88,7 +88,7 @@ runs-left m [] h = refl
 runs-left m (t ∷ []) h = or-false (runs m t)
 runs-left m (t ∷ u ∷ ts) h = absurd (omega arith)
 
-pub seen_all : {P S : List ℕ} {s : ℕ} {flags : List Bool} {i : ℕ} → Stands P S s → Seen P S s flags i → length S ≤ i → Running flags (state P S s)
-seen_all {P} {S} {s} {flags} {i} st n h m k =
-    sym (ap (λ (b : Bool). get_or flags m false || b) (runs-end P S m i h) ∙ or-false (get_or flags m false))
-    ∙ (n.so_far m k ∙ runs-left m (terms P (drop s S)) st.single)
+pub seen_all : {P W : List ℕ} {s i : ℕ} {flags : List Bool} → Stands P W s → Seen P (drop s W) flags i → length (drop s W) ≤ i → Running flags (state P W s)
+seen_all {P} {W} {s} {i} {flags} st n h m k =
+    sym (ap (λ (b : Bool). get_or flags m false || b) (runs-end P (drop s W) m i h) ∙ or-false (get_or flags m false))
+    ∙ (n.so_far m k ∙ runs-left m (terms P (drop s W)) st.single)

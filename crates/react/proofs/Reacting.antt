@@ -18,7 +18,7 @@ use Rattle.paper.specs.Calls.{eight}
 use Rattle.words.specs.Word.{terms, any_runs}
 use Rattle.words.specs.Pieces.{top}
 use Rattle.words.proofs.Marks.{clash}
-use Rattle.rewrite.specs.declared.Memory.{Memory}
+use Rattle.react.specs.declared.State.{State as Kept}
 use Rattle.rewrite.specs.declared.Settled.{Settled}
 use Rattle.rewrite.specs.Steps.{state, Stands}
 use Rattle.rewrite.specs.Stored.{stored, Rests}
@@ -62,25 +62,25 @@ left-stands l f r h k = (k (single l f) (single-says l f)).0
 state-path : {r r' : Left} {m m' st st' : List ℕ} → r ≡ r' → m ≡ m' → st ≡ st' → ◌≡◌ {A = State} (record { left = r; memory = m; stopped = st }) (record { left = r'; memory = m'; stopped = st' })
 state-path a b c = λ i. record { left = a i; memory = b i; stopped = c i }
 
-module _ (P W W' : List ℕ) (s : ℕ) (m : Memory) {ms fs : List ℕ} {before after : List Bool} (q : Program) (l : Letter) (n : Settled) (o : Ordered)
-    (own : q.modules ≡ ms) (mods : Modules ms) (ran : Running before (state P W s)) (run : Running after (state P W' n.start))
-    (rests : Rests P W' n (moved q l (state P W s) (stored m))) (told : Told ms l before after fs o) where
+module _ (P W W' : List ℕ) (was : Kept) {ms : List ℕ} {before after : List Bool} (q : Program) (l : Letter) (n : Settled) (o : Ordered)
+    (own : q.modules ≡ ms) (mods : Modules ms) (ran : Running before (state P W was.start)) (run : Running after (state P W' n.start))
+    (rests : Rests P W' n (moved q l (state P W was.start) (stored was.memory))) (told : Told ms l before after was.stopped o) where
   abbrev old : Left
-  old = state P W s
+  old = state P W was.start
 
   abbrev new : Left
   new = state P W' n.start
 
   abbrev st : List ℕ
-  st = stopped_of ms fs
+  st = stopped_of ms was.stopped
 
   ruled-same : {A : Type 0} (f : (own before after stopped : Bool) → A) (k : ℕ) → k < 26 → ruled f l (runs_by before) (runs_by after) st k ≡ ruled f l (λ x. runs_l x old) (λ x. runs_l x new) st k
   ruled-same f k h = rw (ran k h, run k h)
 
-  left_is : new ≡ (moved q l old (stored m)).left
+  left_is : new ≡ (moved q l old (stored was.memory)).left
   left_is = ap (λ (h : Held). h.left) rests.1.0
 
-  orders-right : o.orders ≡ eight (reaction q l (state_of P W s m ms fs)).does
+  orders-right : o.orders ≡ eight (reaction q l (state_of P W ms was)).does
   unfolding reaction orders
   orders-right =
       told.orders_are ∙ ap eight
@@ -95,7 +95,7 @@ module _ (P W W' : List ℕ) (s : ℕ) (m : Memory) {ms fs : List ℕ} {before a
       (λ k h. ap flag (ruled-same stays k h))))
       ∙ stopped-kept (ruled stays l (λ x. runs_l x old) (λ x. runs_l x new) st) ms mods.few
 
-  pub comes-still : (n.start ≡ 96 → ⊥) → Comes P W' ms (record { start = n.start; memory = n.memory; stopped = o.stopped; orders = o.orders }) (reaction q l (state_of P W s m ms fs))
+  pub comes-still : (n.start ≡ 96 → ⊥) → Comes P W' ms (record { state = record { start = n.start; memory = n.memory; stopped = o.stopped }; orders = o.orders }) (reaction q l (state_of P W ms was))
   unfolding reaction stopped_after
   comes-still h =
       let e : new ≡ still (top P W' n.start) = state-still rests.0 (omega (arith, rests.0.within)) in
@@ -106,11 +106,11 @@ module _ (P W W' : List ℕ) (s : ℕ) (m : Memory) {ms fs : List ℕ} {before a
         state_is = state-path left_is (ap (λ (x : Held). x.memory) rests.1.0)
             (kept-right
             ∙ (ap₂ (λ (r : Left) (ks : List ℕ). keep (ruled stays l (λ x. runs_l x old) (λ x. runs_l x r) st) ks) e (sym own)
-            ∙ ap (stopped_after q l (state_of P W s m ms fs)) (sym e ∙ left_is)));
+            ∙ ap (stopped_after q l (state_of P W ms was)) (sym e ∙ left_is)));
         orders_are = orders-right;
       }
 
-  pub comes-ended : n.start ≡ 96 → Comes P W' ms (record { start = n.start; memory = n.memory; stopped = replicate 8 0; orders = o.orders }) (reaction q l (state_of P W s m ms fs))
+  pub comes-ended : n.start ≡ 96 → Comes P W' ms (record { state = record { start = n.start; memory = n.memory; stopped = replicate 8 0 }; orders = o.orders }) (reaction q l (state_of P W ms was))
   unfolding reaction stopped_after
   comes-ended h =
       let e : new ≡ gone = state-gone rests.0 (omega arith) in
@@ -118,6 +118,6 @@ module _ (P W W' : List ℕ) (s : ℕ) (m : Memory) {ms fs : List ℕ} {before a
         stands = rests.0;
         few = rests.1.1;
         flags = flags-none 8 (length ms);
-        state_is = state-path left_is (ap (λ (x : Held). x.memory) rests.1.0) (stopped_none 8 ms ∙ ap (stopped_after q l (state_of P W s m ms fs)) (sym e ∙ left_is));
+        state_is = state-path left_is (ap (λ (x : Held). x.memory) rests.1.0) (stopped_none 8 ms ∙ ap (stopped_after q l (state_of P W ms was)) (sym e ∙ left_is));
         orders_are = orders-right;
       }

@@ -2,7 +2,7 @@
 --     "A term, a memory and a set of stopped modules."
 --     Modules ms            the letters of a program's modules: at most eight, ascending, each one of a to z
 --     stopped_of ms fs       the stopped set: those of the modules ms whose flag is 1
---     state_of P W s m ms fs     the state whose word stands from place s on, with the memory m and those stopped
+--     state_of P W ms x     the state x, whose word stands in W, of a program with the modules ms
 --     flags_of p ms          eight numbers: 1 for each of the modules that passes the test p, zeros behind
 --     Flags n fs            each flag is 0 or 1, and 0 from the n-th on
 --     runs_by rs m           the flag of the module m among flags by letter
@@ -10,7 +10,7 @@
 --     ruled f l b a st m    what the rule f, `order` or `stays`, says of the module m: by the tests b and a for what ran before and runs after, and
 --                           by the stopped set st
 --     Told ms l rs ts fs a  the answer a has the orders and the stopped set after the letter l
---     Ready P ms W s T m l  what a reaction to the letter l is given: table, modules, a state's word and memory, a word T to write in
+--     Ready P ms W x T l    what a reaction to the letter l is given: table, modules, a state x and its word, a word T to write in
 --     Fits q ms l f         q is a program with these modules, in which the letter's event is fugitive or not as f says
 --     Comes P W ms a x      the word W and the answer a are the reaction x
 -- Assumes nothing.
@@ -25,7 +25,7 @@ use Rattle.paper.specs.Calls.{eight}
 use Rattle.words.specs.Pieces.{Table}
 use Rattle.rewrite.specs.Steps.{state, Stands}
 use Rattle.rewrite.specs.Stored.{stored}
-use Rattle.rewrite.specs.declared.Memory.{Memory}
+use Rattle.react.specs.declared.State.{State as Kept}
 use Rattle.react.specs.declared.Ordered.{Ordered}
 use Rattle.react.specs.declared.Reacted.{Reacted}
 
@@ -43,8 +43,8 @@ stopped_of [] fs = []
 stopped_of (m ∷ ms) [] = []
 stopped_of (m ∷ ms) (f ∷ fs) = with_if (eqb f 1) m (stopped_of ms fs)
 
-abbrev pub state_of : List ℕ → List ℕ → ℕ → Memory → (modules flags : List ℕ) → State
-state_of P W s m ms fs = record { left = state P W s; memory = stored m; stopped = stopped_of ms fs }
+abbrev pub state_of : (nodes word modules : List ℕ) → Kept → State
+state_of P W ms x = record { left = state P W x.start; memory = stored x.memory; stopped = stopped_of ms x.stopped }
 
 abbrev pub flags_of : (ℕ → Bool) → List ℕ → List ℕ
 flags_of p ms = eight (map (λ m. flag (p m)) ms)
@@ -66,21 +66,21 @@ pub record Told (ms : List ℕ) (l : Letter) (before after : List Bool) (fs : Li
   pub stopped_are : a.stopped ≡ flags_of (ruled stays l (runs_by before) (runs_by after) (stopped_of ms fs)) ms
 
 -- an event that is not stored may have to be
-pub record Ready (P ms W : List ℕ) (s : ℕ) (T : List ℕ) (m : Memory) (l : Letter) : Type 0 where
+pub record Ready (P ms W : List ℕ) (x : Kept) (T : List ℕ) (l : Letter) : Type 0 where
   pub table : Table P
   pub modules : Modules ms
-  pub stands : Stands P W s
+  pub stands : Stands P W x.start
   pub long : length T ≡ 96
-  pub few : m.count ≤ 8
-  pub room : (e : ℕ) → l ≡ occurrence e → has e (stored m) ≡ false → m.count < 8
+  pub few : x.memory.count ≤ 8
+  pub room : (e : ℕ) → l ≡ occurrence e → has e (stored x.memory) ≡ false → x.memory.count < 8
 
 pub record Fits (q : Program) (ms : List ℕ) (l : Letter) (fugitive : Bool) : Type 0 where
   pub modules_are : q.modules ≡ ms
   pub fugitive_is : (e : ℕ) → l ≡ occurrence e → fugitive ≡ has e q.fugitive
 
 pub record Comes (P W ms : List ℕ) (a : Reacted) (x : Reaction) : Type 0 where
-  pub stands : Stands P W a.start
-  pub few : a.memory.count ≤ 8
-  pub flags : Flags (length ms) a.stopped
-  pub state_is : state_of P W a.start a.memory ms a.stopped ≡ x.state
+  pub stands : Stands P W a.state.start
+  pub few : a.state.memory.count ≤ 8
+  pub flags : Flags (length ms) a.state.stopped
+  pub state_is : state_of P W ms a.state ≡ x.state
   pub orders_are : a.orders ≡ eight x.does

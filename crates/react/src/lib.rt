@@ -6,19 +6,24 @@
 ghost use Rattle.std.specs.Prelude.{◌≡◌, ℕ, ◌<◌};
 ghost use Rattle.paper.specs.Running.{runs_l};
 ghost use Rattle.paper.specs.Rewriting.{completion};
-ghost use Rattle.paper.specs.Reaction.{Program, State, is_own, possible as possible_in, reaction};
-ghost use Rattle.paper.specs.Table.{flag as flag_of};
+ghost use Rattle.paper.specs.Reaction as rules;
 ghost use Rattle.rewrite.specs.Steps.{letter_of, state, Stands};
 ghost use Rattle.react.specs.States.{Modules, state_of, flags_of, Running, Told, Ready, Fits, Comes};
 
 use rewrite::{Letter, Memory};
 
-// What a reaction leaves: where the word starts, the memory, the stopped set, and the orders.
+// A state beside its word: where the word starts, the memory, and a flag for each module.
 #[derive(Clone, Copy)]
-pub struct Reacted {
+pub struct State {
     pub start: usize,
     pub memory: Memory,
     pub stopped: [u8; 8],
+}
+
+// What a reaction leaves: the state, and the order to each module.
+#[derive(Clone, Copy)]
+pub struct Reacted {
+    pub state: State,
     pub orders: [u8; 8],
 }
 
@@ -35,27 +40,12 @@ pub fn running_letters(p: &[u8], w: &[usize], s: usize) -> [bool; 26]
     ensures { Running result (state p.now w.now s) }
 {
     let mut flags = [false; 26];
-    let mut i = s;
-    while i < w.len() {
-        let unit = w[i];
+    for &unit in &w[s..] {
         if 770 <= unit {
             flags[unit - 770] = true;
         }
-        i += 1;
     }
     flags
-}
-
-fn flag(b: bool) -> u8
-    ensures { result ≡ flag_of b }
-{
-    if b { 1 } else { 0 }
-}
-
-fn wide(x: u8) -> usize
-    ensures { result ≡ x }
-{
-    x as usize
 }
 
 // 1 for each of the modules that runs, in their order; zeros behind.
@@ -65,11 +55,8 @@ pub fn runs_flags(p: &[u8], modules: &[u8], w: &[usize], s: usize) -> [u8; 8]
 {
     let runs = running_letters(p, w, s);
     let mut flags = [0u8; 8];
-    let mut i = 0;
-    while i < modules.len() {
-        let m = wide(modules[i]);
-        flags[i] = flag(runs[m]);
-        i += 1;
+    for (i, &m) in modules.iter().enumerate() {
+        flags[i] = u8::from(runs[usize::from(m)]);
     }
     flags
 }
@@ -77,7 +64,7 @@ pub fn runs_flags(p: &[u8], modules: &[u8], w: &[usize], s: usize) -> [u8; 8]
 // Whether a letter can be reacted to: a completion only of a module that runs, events always.
 pub fn possible(p: &[u8], w: &[usize], s: usize, letter: Letter) -> bool
     requires { Stands p.now w.now s × ((m : ℕ) → letter_of letter ≡ completion m → m < 256) }
-    ensures { (x : State) → x.left ≡ state p.now w.now s → result ≡ possible_in (letter_of letter) x }
+    ensures { (x : rules.State) → x.left ≡ state p.now w.now s → result ≡ rules.possible (letter_of letter) x }
 {
     match letter {
         Letter::Completion(m) => words::running(p, w, s, m),
@@ -87,7 +74,7 @@ pub fn possible(p: &[u8], w: &[usize], s: usize, letter: Letter) -> bool
 
 // Whether a letter is the module's own completion.
 fn is_own(letter: Letter, m: usize) -> bool
-    ensures { result ≡ is_own (letter_of letter) m }
+    ensures { result ≡ rules.is_own (letter_of letter) m }
 {
     match letter {
         Letter::Completion(a) => a == m,
@@ -108,19 +95,17 @@ fn give_orders(
 {
     let mut orders = [0u8; 8];
     let mut next = [0u8; 8];
-    let mut i = 0;
-    while i < modules.len() {
-        let m = wide(modules[i]);
+    for (i, &name) in modules.iter().enumerate() {
+        let m = usize::from(name);
         let own = is_own(letter, m);
         let ran = before[m];
         let runs = after[m];
         let held = stopped[i] == 1;
         orders[i] = rewrite::order(own, ran, runs, held);
-        next[i] = flag(rewrite::stays(own, ran, runs, held));
-        i += 1;
+        next[i] = u8::from(rewrite::stays(own, ran, runs, held));
     }
     Ordered {
-        orders: orders,
+        orders,
         stopped: next,
     }
 }
@@ -131,36 +116,26 @@ pub fn react(
     p: &[u8],
     modules: &[u8],
     w: &mut [usize],
-    s: usize,
+    state: State,
     tmp: &mut [usize],
-    memory: Memory,
-    stopped: [u8; 8],
     letter: Letter,
     fugitive: bool,
 ) -> Reacted
-    requires { Ready p.now modules.now w.old s tmp.old memory (letter_of letter) }
-    ensures { (q : Program) → Fits q modules.now (letter_of letter) fugitive → Comes p.now w.new modules.now result (reaction q (letter_of letter) (state_of p.now w.old s memory modules.now stopped)) }
+    requires { Ready p.now modules.now w.old state tmp.old (letter_of letter) }
+    ensures { (q : rules.Program) → Fits q modules.now (letter_of letter) fugitive → Comes p.now w.new modules.now result (rules.reaction q (letter_of letter) (state_of p.now w.old modules.now state)) }
 {
-    let before = running_letters(p, w, s);
-    let next = rewrite::advance(p, w, s, tmp, memory, letter, fugitive);
+    let before = running_letters(p, w, state.start);
+    let next = rewrite::advance(p, w, state.start, tmp, state.memory, letter, fugitive);
     let start = next.start;
     let after = running_letters(p, w, start);
-    let told = give_orders(modules, letter, &before, &after, stopped);
-    let stored = next.memory;
-    let orders = told.orders;
-    if start == 96 {
-        return Reacted {
-            start: start,
-            memory: stored,
-            stopped: [0; 8],
-            orders: orders,
-        };
-    }
-    let set = told.stopped;
+    let Ordered { orders, stopped } = give_orders(modules, letter, &before, &after, state.stopped);
+    let stopped = if start == 96 { [0; 8] } else { stopped };
     Reacted {
-        start: start,
-        memory: stored,
-        stopped: set,
-        orders: orders,
+        state: State {
+            start,
+            memory: next.memory,
+            stopped,
+        },
+        orders,
     }
 }
