@@ -18,10 +18,10 @@ use Rattle.laws.proofs.Letters.{keep_same}
 use Rattle.laws.proofs.Reached.{Idle, at_end, unarmed, again}
 use Rattle.words.specs.Word.{terms, any_armed}
 use Rattle.words.specs.Pieces.{top}
-use Rattle.rewrite.specs.declared.Memory.{Memory}
 use Rattle.rewrite.specs.Steps.{Stands}
 use Rattle.rewrite.specs.Stored.{stored}
 use Rattle.rewrite.proofs.Standing.{state-still, state-gone, state-terms}
+use Rattle.react.specs.declared.State.{State as Kept}
 use Rattle.react.specs.States.{state_of}
 use Rattle.coding.specs.Written.{Written}
 use Rattle.coding.proofs.Fit.{Fit}
@@ -91,13 +91,13 @@ or-none : (b : Bool) → (b || false) ≡ b
 or-none true = refl
 or-none false = refl
 
-module _ {P W : List ℕ} {s : ℕ} (st : Stands P W s) (q : Program) (e : ℕ) (m : Memory) (ms fs : List ℕ) where
-  pub idle-end : 96 ≤ s → Idle q (state_of P W s m ms fs) e
+module _ {P W : List ℕ} (x : Kept) (st : Stands P W x.start) (q : Program) (e : ℕ) (ms : List ℕ) where
+  pub idle-end : 96 ≤ x.start → Idle q (state_of P W ms x) e
   idle-end h = at_end (state-gone st h)
 
-  pub idle-fugitive : s < 96 → has e q.fugitive ≡ true → any_armed e (terms P (drop s W)) ≡ false → Idle q (state_of P W s m ms fs) e
+  pub idle-fugitive : x.start < 96 → has e q.fugitive ≡ true → any_armed e (terms P (drop x.start W)) ≡ false → Idle q (state_of P W ms x) e
   unfolding any_armed
-  idle-fugitive h f a = unarmed (state-still st h) f (sym (ap (any_armed e) (state-terms st h) ∙ or-none (armed e (top P W s))) ∙ a)
+  idle-fugitive h f a = unarmed (state-still st h) f (sym (ap (any_armed e) (state-terms st h) ∙ or-none (armed e (top P W x.start))) ∙ a)
 
-  pub idle-stored : has e q.fugitive ≡ false → has e (stored m) ≡ true → Idle q (state_of P W s m ms fs) e
+  pub idle-stored : has e q.fugitive ≡ false → has e (stored x.memory) ≡ true → Idle q (state_of P W ms x) e
   idle-stored f h = again f h

@@ -8,7 +8,7 @@ use lib.ListN.{length, length-map}
 use Rattle.paper.specs.Rewriting.{Letter}
 use Rattle.paper.specs.Reaction.{Program, State, possible, reaction}
 use Rattle.paper.specs.Calls.{Lived, eight, lives_on, not_lived}
-use Rattle.rewrite.specs.declared.Memory.{Memory}
+use Rattle.react.specs.declared.State.{State as Kept}
 use Rattle.react.specs.States.{state_of}
 use Rattle.coding.specs.Code.{code}
 use Rattle.coding.proofs.Closed.{step_in}
@@ -20,8 +20,8 @@ use Rattle.slots.specs.Slots.{Holds, Enrolls}
 use Rattle.discover.specs.Finding.{Seen, Arrives}
 use Rattle.discover.proofs.Arriving.{arrives-none, arrives-over, arrives-on}
 
-pub runs-copied : (P ms es : List ℕ) (fs : List Bool) (W N : List ℕ) (s : ℕ) (m : Memory) (st : List ℕ) (l : Letter) → N ≡ W → Runs P ms es fs W s m st l → Runs P ms es fs N s m st l
-runs-copied P ms es fs W N s m st l e r = subst (λ (Z : List ℕ). Runs P ms es fs Z s m st l) (sym e) r
+pub runs-copied : (P ms es : List ℕ) (fs : List Bool) (W N : List ℕ) (y : Kept) (l : Letter) → N ≡ W → Runs P ms es fs W y l → Runs P ms es fs N y l
+runs-copied P ms es fs W N y l e r = subst (λ (Z : List ℕ). Runs P ms es fs Z y l) (sym e) r
 
 -- the answer's number says whether the letter is possible, and where it is, orders and bytes are the reaction's
 module _ (q : Program) (l : Letter) (x : State) (live live' : List ℕ) (r : Answer) (e : outcome r live' ≡ reacted_to q l x live) where
@@ -43,16 +43,16 @@ module _ (q : Program) (l : Letter) (x : State) (live live' : List ℕ) (r : Ans
       go true k = (k, (ap (λ (y : Lived). y.orders) (its true k), ap (λ (y : Lived). y.live) (its true k)))
       go false k = absurd (omega (arith, ap (λ (y : Lived). y.number) (its false k)))
 
-module _ (q : Program) (P ms es : List ℕ) (fs : List Bool) (W N : List ℕ) (s : ℕ) (m : Memory) (st : List ℕ) (l : Letter) (c : N ≡ W) (d : Loaded q P ms es) (k : Kinds q fs) (h : Stated q P ms W s m st l) (live live' : List ℕ) (r : Answer) where
+module _ (q : Program) (P ms es : List ℕ) (fs : List Bool) (W N : List ℕ) (y : Kept) (l : Letter) (c : N ≡ W) (d : Loaded q P ms es) (k : Kinds q fs) (h : Stated q P ms W y l) (live live' : List ℕ) (r : Answer) where
   abbrev x : State
-  x = state_of P W s m ms st
+  x = state_of P W ms y
 
   -- what `go` says, on the copy of the word, for every program
   abbrev Goes : Type 0
-  Goes = (q : Program) → Loaded q P ms es → Kinds q fs → Stated q P ms N s m st l → outcome r live' ≡ reacted_to q l (state_of P N s m ms st) live
+  Goes = (q : Program) → Loaded q P ms es → Kinds q fs → Stated q P ms N y l → outcome r live' ≡ reacted_to q l (state_of P N ms y) live
 
   gone-on : Goes → outcome r live' ≡ reacted_to q l x live
-  gone-on g = subst (λ (Z : List ℕ). Stated q P ms Z s m st l → outcome r live' ≡ reacted_to q l (state_of P Z s m ms st) live) c (g q d k) h
+  gone-on g = subst (λ (Z : List ℕ). Stated q P ms Z y l → outcome r live' ≡ reacted_to q l (state_of P Z ms y) live) c (g q d k) h
 
   module _ (g : Goes) (ss : List State) (K X : List ℕ) (seen : Seen q K X ss) where
     pub goes_none : (r.number ≡ 0 → ⊥) → (n : ℕ) → length ss ≡ n → Arrives q x l ss K X (record { over = false; count = n; entry = 0 })

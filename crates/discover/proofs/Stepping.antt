@@ -10,7 +10,7 @@ use Rattle.paper.specs.Rewriting.{Letter}
 use Rattle.paper.specs.Reaction.{Program, State}
 use Rattle.paper.specs.Discovery.{Among, here, there, letters, finds}
 use Rattle.paper.proofs.Choices.{clash}
-use Rattle.rewrite.specs.declared.Memory.{Memory}
+use Rattle.react.specs.declared.State.{State as Kept}
 use Rattle.react.specs.States.{state_of}
 use Rattle.coding.specs.Written.{Written}
 use Rattle.coding.specs.Code.{code}
@@ -35,8 +35,8 @@ among-drop zero ls l rest e = subst (Among l) (sym e) here
 among-drop (suc j) [] l rest e = clash (cc)
 among-drop (suc j) (k ∷ ls) l rest e = there (among-drop j ls l rest e)
 
-pub stated-of : (p : Program) (P ms W : List ℕ) (s : ℕ) (m : Memory) (st : List ℕ) (l : Letter) → Written p (state_of P W s m ms st) → (j : ℕ) (rest : List Letter) → drop j (letters p) ≡ l ∷ rest → Stated p P ms W s m st l
-stated-of p P ms W s m st l w j rest e = record { written = w; among = among-drop j (letters p) l rest e }
+pub stated-of : (p : Program) (P ms W : List ℕ) (x : Kept) (l : Letter) → Written p (state_of P W ms x) → (j : ℕ) (rest : List Letter) → drop j (letters p) ≡ l ∷ rest → Stated p P ms W x l
+stated-of p P ms W x l w j rest e = record { written = w; among = among-drop j (letters p) l rest e }
 
 take_next : {A : Type 0} (j : ℕ) (ls : List A) (l : A) (rest : List A) → drop j ls ≡ l ∷ rest → take (j + 1) ls ≡ take j ls ++ l ∷ []
 take_next j ls l rest e = take-add j 1 ls ∙ ap (λ (x : List _). take j ls ++ take 1 x) e

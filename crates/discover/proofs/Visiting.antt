@@ -15,6 +15,7 @@ use Rattle.paper.proofs.Choices.{clash}
 use Rattle.paper.proofs.Equal.{eq_s-refl}
 use Rattle.laws.proofs.Members.{Has, has-head, has-tail}
 use Rattle.rewrite.specs.Steps.{Stands, state}
+use Rattle.react.specs.declared.State.{State as Kept}
 use Rattle.react.specs.States.{state_of}
 use Rattle.coding.specs.Written.{Written}
 use Rattle.coding.specs.Code.{code, decode}
@@ -97,16 +98,19 @@ module _ (q : Program) (f : Fit q) (K X : List ℕ) (ss : List State) (seen : Se
     pub stands : Stands P W u.start
     stands = d.stands found
 
-    its-state : state_of P W u.start u.memory ms u.stopped ≡ x
+    abbrev kept : Kept
+    kept = record { start = u.start; memory = u.memory; stopped = u.stopped }
+
+    its-state : state_of P W ms kept ≡ x
     its-state = some_same (sym (d.found found) ∙ decodes)
       where
         some_same : {s t : State} → ◌≡◌ {A = Option State} (some s) (some t) → s ≡ t
         some_same h = cc
 
-    pub state-written : Written q (state_of P W u.start u.memory ms u.stopped)
+    pub state-written : Written q (state_of P W ms kept)
     state-written = subst (Written q) (sym its-state) its-written
 
-    pub state-number : Numbered (state_of P W u.start u.memory ms u.stopped) ss k
+    pub state-number : Numbered (state_of P W ms kept) ss k
     state-number = subst (λ (s : State). Numbered s ss k) (sym its-state) its-number
 
     parts-over : (n : ℕ) → n ≡ capped (parts_of (state P W u.start)) → ltb 8192 n ≡ ltb most_parts (parts_of x.left)
@@ -114,8 +118,8 @@ module _ (q : Program) (f : Fit q) (K X : List ℕ) (ss : List State) (seen : Se
         ap (ltb 8192) h
         ∙ (capped-over (parts_of (state P W u.start)) ∙ ap (λ (s : State). ltb 8192 (parts_of s.left)) its-state)
 
-    its-turns : (K' X' E F : List ℕ) (at : ℕ) (over : Bool) (n : ℕ) → Turns q (state_of P W u.start u.memory ms u.stopped) ss K' X' E F at over n → Turns q x ss K' X' E F at over n
+    its-turns : (K' X' E F : List ℕ) (at : ℕ) (over : Bool) (n : ℕ) → Turns q (state_of P W ms kept) ss K' X' E F at over n → Turns q x ss K' X' E F at over n
     its-turns K' X' E F at over n t = subst (λ (s : State). Turns q s ss K' X' E F at over n) its-state t
 
-    pub visited : (n : ℕ) → n ≡ capped (parts_of (state P W u.start)) → (K' X' E F : List ℕ) (at : ℕ) (t : Turned) → Turns q (state_of P W u.start u.memory ms u.stopped) ss K' X' E F at t.over t.count → Visited q x ss K' X' E F at (record { over = t.over; large = ltb 8192 n; count = t.count })
+    pub visited : (n : ℕ) → n ≡ capped (parts_of (state P W u.start)) → (K' X' E F : List ℕ) (at : ℕ) (t : Turned) → Turns q (state_of P W ms kept) ss K' X' E F at t.over t.count → Visited q x ss K' X' E F at (record { over = t.over; large = ltb 8192 n; count = t.count })
     visited n h K' X' E F at t r = record { turns = its-turns K' X' E F at t.over t.count r; large_is = λ o. parts-over n h }

@@ -9,7 +9,7 @@
 --     Seen p K X ss         the states ss of the program p, in their order, stand in the working slice K, with their index X
 --     Room W N T K X n      a word W, places N and T for others, a working slice K and an index X as long as is asked for, and at most 512 states
 --     Arrives p s l ss K X a    the answer a is of the letter l in the state s, and K and X have the states met
---     Standing P ms es fs W s m st K X n k      there is a program, a state of its written set, which stands in W, and n states seen, of which it is
+--     Standing P ms es fs W x K X n k   there is a program, a state x of its written set, whose word stands in W, and n states seen, of which it is
 --                           the k-th
 --     Turning p s ss K X E F at j n     j letters of a turn of the state s
 --     Turns p s ss K X E F at over n    a turn of the state s: K and X have the states met, n of them, and its entries stand in F from `at` on, E before it;
@@ -32,8 +32,8 @@ use Rattle.paper.specs.Discovery.{letters, has_s, finds, Found, discover, discov
 use Rattle.paper.specs.Table.{number_of, entry_of}
 use Rattle.paper.specs.Refusals.{most_parts, parts_of, any_too_large, discovering}
 use Rattle.laws.proofs.Reached.{Idle}
-use Rattle.rewrite.specs.declared.Memory.{Memory}
 use Rattle.rewrite.specs.Steps.{Stands}
+use Rattle.react.specs.declared.State.{State as Kept}
 use Rattle.react.specs.States.{Flags, state_of, flags_of}
 use Rattle.coding.specs.Written.{Written}
 use Rattle.coding.specs.Code.{code}
@@ -80,18 +80,18 @@ pub record Arrives (p : Program) (s : State) (l : Letter) (ss : List State) (K X
   pub count_is : a.over ≡ false → a.count ≡ length (met p s (l ∷ []) ss)
   pub entry_is : a.over ≡ false → (more : List State) → a.entry ≡ entered p (met p s (l ∷ []) ss ++ more) s l
 
-pub record Standing (P ms es : List ℕ) (fs : List Bool) (W : List ℕ) (s : ℕ) (m : Memory) (st K X : List ℕ) (n k : ℕ) : Type 0 where
+pub record Standing (P ms es : List ℕ) (fs : List Bool) (W : List ℕ) (x : Kept) (K X : List ℕ) (n k : ℕ) : Type 0 where
   pub program : Program
   pub loaded : Loaded program P ms es
   pub kinds : Kinds program fs
-  pub written : Written program (state_of P W s m ms st)
-  pub stands : Stands P W s
-  pub few : m.count ≤ 8
-  pub flags : Flags (length ms) st
+  pub written : Written program (state_of P W ms x)
+  pub stands : Stands P W x.start
+  pub few : x.memory.count ≤ 8
+  pub flags : Flags (length ms) x.stopped
   pub states : List State
   pub seen : Seen program K X states
   pub count_is : length states ≡ n
-  pub numbered : Numbered (state_of P W s m ms st) states k
+  pub numbered : Numbered (state_of P W ms x) states k
 
 pub record Turning (p : Program) (s : State) (ss : List State) (K X E F : List ℕ) (at j n : ℕ) : Type 0 where
   pub seen : Seen p K X (met p s (take j (letters p)) ss)

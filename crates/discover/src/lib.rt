@@ -5,7 +5,7 @@
 ghost use Rattle.std.specs.Prelude.{◌≡◌, true, List, [], ◌∷◌, ℕ, ◌+◌, ◌*◌, ◌≤◌, ◌<◌, length, drop};
 ghost use Rattle.paper.specs.Lists.{has};
 ghost use Rattle.paper.specs.Rewriting.{occurrence};
-ghost use Rattle.paper.specs.Reaction.{Program, State, start_of};
+ghost use Rattle.paper.specs.Reaction.{Program, State as Reached, start_of};
 ghost use Rattle.paper.specs.Discovery.{letters};
 ghost use Rattle.laws.proofs.Reached.{Idle};
 ghost use Rattle.words.specs.Pieces.{Table};
@@ -19,6 +19,7 @@ ghost use Rattle.discover.specs.Finding.{Numbered, Idles, Room, Seen, Arrives, S
 
 use engine::{begin, go};
 use parts::{count_parts, parts_of};
+use react::State;
 use rewrite::{Letter, Memory, copy};
 use slots::enroll;
 use unpack::unpack;
@@ -98,9 +99,7 @@ fn arrive(
     events: &[u8],
     fugitive: &[bool; 26],
     w: &[usize],
-    s: usize,
-    memory: Memory,
-    stopped: [u8; 8],
+    state: State,
     letter: Letter,
     next: &mut [usize],
     tmp: &mut [usize],
@@ -108,17 +107,17 @@ fn arrive(
     index: &mut [usize],
     count: usize,
 ) -> Arrived
-    requires runs { Runs nodes.now modules.now events.now fugitive.now w.now s memory stopped (letter_of letter) }
+    requires runs { Runs nodes.now modules.now events.now fugitive.now w.now state (letter_of letter) }
     requires room { Room w.now next.old tmp.old work.old index.old count }
     ensures { (q : Program) → Loaded q nodes.now modules.now events.now → Kinds q fugitive.now
-        → Stated q nodes.now modules.now w.now s memory stopped (letter_of letter)
-        → (S : List State) → Seen q work.old index.old S → length S ≡ count
-        → Arrives q (state_of nodes.now w.now s memory modules.now stopped) (letter_of letter) S work.new index.new result }
+        → Stated q nodes.now modules.now w.now state (letter_of letter)
+        → (S : List Reached) → Seen q work.old index.old S → length S ≡ count
+        → Arrives q (state_of nodes.now w.now modules.now state) (letter_of letter) S work.new index.new result }
 {
     let mut bytes = [0u8; 128];
     copy(w, next, 0);
     let a = go(
-        nodes, modules, events, fugitive, &mut bytes, next, tmp, s, memory, stopped, letter,
+        nodes, modules, events, fugitive, &mut bytes, next, tmp, state, letter,
     );
     if a.number != 0 {
         return Arrived {
@@ -161,44 +160,28 @@ fn is_stored(memory: Memory, e: usize) -> bool
 }
 
 // Whether it is seen at once that the event changes nothing: at the end, a fugitive one that is not armed, a stored one.
-fn passes(
-    nodes: &[u8],
-    fugitive: &[bool; 26],
-    w: &[usize],
-    s: usize,
-    memory: Memory,
-    e: usize,
-) -> bool
-    requires { Table nodes.now × (Stands nodes.now w.now s × ((memory.count ≤ 8) × (e < 26))) }
-    ensures { (q : Program) → Kinds q fugitive.now → (ms st : List ℕ) → result ≡ true → Idle q (state_of nodes.now w.now s memory ms st) e }
+fn passes(nodes: &[u8], fugitive: &[bool; 26], w: &[usize], state: State, e: usize) -> bool
+    requires { Table nodes.now × (Stands nodes.now w.now state.start × ((state.memory.count ≤ 8) × (e < 26))) }
+    ensures { (q : Program) → Kinds q fugitive.now → (ms : List ℕ) → result ≡ true → Idle q (state_of nodes.now w.now ms state) e }
 {
-    if s == 96 {
+    if state.start == 96 {
         return true;
     }
     if fugitive[e] {
-        if event_armed(nodes, w, s, e) {
-            return false;
-        }
-        return true;
+        !event_armed(nodes, w, state.start, e)
+    } else {
+        is_stored(state.memory, e)
     }
-    is_stored(memory, e)
 }
 
 // The same of a letter: a completion never passes.
-fn idle(
-    nodes: &[u8],
-    fugitive: &[bool; 26],
-    w: &[usize],
-    s: usize,
-    memory: Memory,
-    letter: Letter,
-) -> bool
-    requires { Table nodes.now × (Stands nodes.now w.now s × ((memory.count ≤ 8) × ((e : ℕ) → letter_of letter ≡ occurrence e → e < 26))) }
-    ensures { (q : Program) → Kinds q fugitive.now → (ms st : List ℕ) → result ≡ true → Idles q (state_of nodes.now w.now s memory ms st) (letter_of letter) }
+fn idle(nodes: &[u8], fugitive: &[bool; 26], w: &[usize], state: State, letter: Letter) -> bool
+    requires { Table nodes.now × (Stands nodes.now w.now state.start × ((state.memory.count ≤ 8) × ((e : ℕ) → letter_of letter ≡ occurrence e → e < 26))) }
+    ensures { (q : Program) → Kinds q fugitive.now → (ms : List ℕ) → result ≡ true → Idles q (state_of nodes.now w.now ms state) (letter_of letter) }
 {
     match letter {
         Letter::Completion(_) => false,
-        Letter::Occurrence(e) => passes(nodes, fugitive, w, s, memory, e),
+        Letter::Occurrence(e) => passes(nodes, fugitive, w, state, e),
     }
 }
 
@@ -210,9 +193,7 @@ fn meet(
     events: &[u8],
     fugitive: &[bool; 26],
     w: &[usize],
-    s: usize,
-    memory: Memory,
-    stopped: [u8; 8],
+    state: State,
     letter: Letter,
     next: &mut [usize],
     tmp: &mut [usize],
@@ -221,16 +202,16 @@ fn meet(
     count: usize,
     k: usize,
 ) -> Arrived
-    requires runs { Runs nodes.now modules.now events.now fugitive.now w.now s memory stopped (letter_of letter) }
+    requires runs { Runs nodes.now modules.now events.now fugitive.now w.now state (letter_of letter) }
     requires room { Room w.now next.old tmp.old work.old index.old count }
     requires k_bound { k ≤ 512 }
     ensures { (q : Program) → Loaded q nodes.now modules.now events.now → Kinds q fugitive.now
-        → Stated q nodes.now modules.now w.now s memory stopped (letter_of letter)
-        → (S : List State) → Seen q work.old index.old S → length S ≡ count
-        → Numbered (state_of nodes.now w.now s memory modules.now stopped) S k
-        → Arrives q (state_of nodes.now w.now s memory modules.now stopped) (letter_of letter) S work.new index.new result }
+        → Stated q nodes.now modules.now w.now state (letter_of letter)
+        → (S : List Reached) → Seen q work.old index.old S → length S ≡ count
+        → Numbered (state_of nodes.now w.now modules.now state) S k
+        → Arrives q (state_of nodes.now w.now modules.now state) (letter_of letter) S work.new index.new result }
 {
-    if idle(nodes, fugitive, w, s, memory, letter) {
+    if idle(nodes, fugitive, w, state, letter) {
         return Arrived {
             over: false,
             count: count,
@@ -238,8 +219,7 @@ fn meet(
         };
     }
     arrive(
-        nodes, modules, events, fugitive, w, s, memory, stopped, letter, next, tmp, work, index,
-        count,
+        nodes, modules, events, fugitive, w, state, letter, next, tmp, work, index, count,
     )
 }
 
@@ -250,9 +230,7 @@ fn turn(
     events: &[u8],
     fugitive: &[bool; 26],
     w: &[usize],
-    s: usize,
-    memory: Memory,
-    stopped: [u8; 8],
+    state: State,
     next: &mut [usize],
     tmp: &mut [usize],
     work: &mut [u8],
@@ -262,14 +240,14 @@ fn turn(
     at: usize,
     k: usize,
 ) -> Turned
-    requires standing { Standing nodes.now modules.now events.now fugitive.now w.now s memory stopped work.old index.old count k }
+    requires standing { Standing nodes.now modules.now events.now fugitive.now w.now state work.old index.old count k }
     requires room { Room w.now next.old tmp.old work.old index.old count }
     requires events_bound { (at + (length modules.now + length events.now) ≤ 8192) × (8192 ≤ length entries.old) }
     ensures { (q : Program) → Loaded q nodes.now modules.now events.now → Kinds q fugitive.now
-        → Written q (state_of nodes.now w.now s memory modules.now stopped)
-        → (S : List State) → Seen q work.old index.old S → length S ≡ count
-        → Numbered (state_of nodes.now w.now s memory modules.now stopped) S k
-        → Turns q (state_of nodes.now w.now s memory modules.now stopped) S work.new index.new entries.old entries.new at result.over result.count }
+        → Written q (state_of nodes.now w.now modules.now state)
+        → (S : List Reached) → Seen q work.old index.old S → length S ≡ count
+        → Numbered (state_of nodes.now w.now modules.now state) S k
+        → Turns q (state_of nodes.now w.now modules.now state) S work.new index.new entries.old entries.new at result.over result.count }
 {
     let n = modules.len() + events.len();
     let mut seen = count;
@@ -277,8 +255,7 @@ fn turn(
     while j < n {
         let letter = letter_at(modules, events, j);
         let a = meet(
-            nodes, modules, events, fugitive, w, s, memory, stopped, letter, next, tmp, work,
-            index, seen, k,
+            nodes, modules, events, fugitive, w, state, letter, next, tmp, work, index, seen, k,
         );
         if a.over {
             return Turned {
@@ -319,7 +296,7 @@ fn visit(
     requires room { Room w.old next.old tmp.old work.old index.old count }
     requires in_bounds { 8192 ≤ length entries.old }
     ensures { (q : Program) → Loaded q nodes.now modules.now events.now → Kinds q fugitive.now
-        → (S : List State) → Seen q work.old index.old S → length S ≡ count → (x : State) → (rest : List State) → drop k S ≡ x ∷ rest
+        → (S : List Reached) → Seen q work.old index.old S → length S ≡ count → (x : Reached) → (rest : List Reached) → drop k S ≡ x ∷ rest
         → Visited q x S work.new index.new entries.old entries.new (k * (length modules.now + length events.now)) result }
 {
     let from = 128 * k;
@@ -333,10 +310,13 @@ fn visit(
         w,
         tmp,
     );
-    let start = u.start;
-    let memory = u.memory;
     let stopped = u.stopped;
-    let large = 8192 < parts_of(nodes, sizes, w, start);
+    let state = State {
+        start: u.start,
+        memory: u.memory,
+        stopped,
+    };
+    let large = 8192 < parts_of(nodes, sizes, w, state.start);
     let n = modules.len() + events.len();
     let t = turn(
         nodes,
@@ -344,9 +324,7 @@ fn visit(
         events,
         fugitive,
         w,
-        start,
-        memory,
-        stopped,
+        state,
         next,
         tmp,
         work,

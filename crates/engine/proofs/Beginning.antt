@@ -15,8 +15,8 @@ use Rattle.paper.specs.Calls.{eight, begun}
 use Rattle.laws.specs.Nodes.{tree}
 use Rattle.laws.specs.Weight.{weight}
 use Rattle.words.specs.Pieces.{Asks}
-use Rattle.rewrite.specs.declared.Memory.{Memory}
 use Rattle.rewrite.specs.Steps.{Stands, state}
+use Rattle.react.specs.declared.State.{State as Kept}
 use Rattle.react.specs.States.{flags_of, state_of, stopped_of}
 use Rattle.react.proofs.Flagged.{stopped_none, flags-none}
 use Rattle.coding.specs.Code.{code, coding}
@@ -24,8 +24,9 @@ use Rattle.pack.specs.Packing.{Packs}
 use Rattle.engine.specs.Live.{outcome, Loaded, Rooted}
 use Rattle.engine.proofs.Going.{lives-as}
 
-abbrev nothing : Memory
-nothing = record { events = replicate 8 0; count = 0 }
+-- where its word starts at s, and nothing is stored or stopped
+abbrev first : ℕ → Kept
+first s = record { start = s; memory = record { events = replicate 8 0; count = 0 }; stopped = replicate 8 0 }
 
 none-stored : (e : ℕ) → T (has e []) → ⊥
 unfolding has
@@ -42,7 +43,7 @@ module _ (q : Program) (P ms es : List ℕ) (d : Loaded q P ms es) (root : ℕ) 
   }
 
   module _ (W : List ℕ) (s : ℕ) where
-    pub first-packs : Stands P W s → Packs P ms es W s nothing (replicate 8 0)
+    pub first-packs : Stands P W s → Packs P ms es W (first s)
     first-packs h = record {
       table = d.table;
       modules = d.modules;
@@ -55,13 +56,13 @@ module _ (q : Program) (P ms es : List ℕ) (d : Loaded q P ms es) (root : ℕ) 
       its_left : state P W s ≡ still q.term
       its_left = g ∙ ap still t.its_term
 
-      its-state : state_of P W s nothing ms (replicate 8 0) ≡ start_of q
+      its-state : state_of P W ms (first s) ≡ start_of q
       unfolding start_of
       its-state =
           ap (λ (l : Left). record { left = l; memory = []; stopped = stopped_of ms (replicate 8 0) }) its_left
           ∙ ap (λ (xs : List ℕ). record { left = still q.term; memory = []; stopped = xs }) (stopped_none 8 ms)
 
-      pub begins : (o : List ℕ) → o ≡ flags_of (λ m. runs_l m (state P W s)) ms → (b : List ℕ) → b ≡ code q (state_of P W s nothing ms (replicate 8 0)) → (live live' : List ℕ) → live' ≡ b → outcome (record { number = 0; place = 0; orders = o }) live' ≡ begun coding (accepted q) live
+      pub begins : (o : List ℕ) → o ≡ flags_of (λ m. runs_l m (state P W s)) ms → (b : List ℕ) → b ≡ code q (state_of P W ms (first s)) → (live live' : List ℕ) → live' ≡ b → outcome (record { number = 0; place = 0; orders = o }) live' ≡ begun coding (accepted q) live
       unfolding start_of
       begins o e b c live live' z =
           lives-as o live' (code q (start_of q)) (map (λ m. flag (runs_l m (start_of q).left)) q.modules)

@@ -9,6 +9,7 @@ use Rattle.paper.specs.Rewriting.{Letter}
 use Rattle.paper.specs.Reaction.{Program, State}
 use Rattle.paper.specs.File.{accepted}
 use Rattle.paper.specs.Calls.{Lived, eight, not_lived, letter_of, reacted, stepped}
+use Rattle.react.specs.declared.State.{State as Kept}
 use Rattle.react.specs.States.{state_of}
 use Rattle.coding.specs.Code.{decode, coding}
 use Rattle.coding.proofs.Coded.{code_decode}
@@ -30,20 +31,23 @@ module _ (q : Program) (P ms W b : List ℕ) (u : Unpacked) (h : Decodes q P W m
   unfound f r a = refused_as r b 23 0 a ∙ sym (decoded none (h.refused f).0)
 
   module _ (f : u.found ≡ true) where
-    lettered : (o : Option Letter) → o ≡ letter_of q letter → stepped coding (accepted q) letter b ≡ chosen o (λ x. not_lived 21 0 b) (λ l. reacted_to q l (state_of P W u.start u.memory ms u.stopped) b)
+    abbrev found : Kept
+    found = record { start = u.start; memory = u.memory; stopped = u.stopped }
+
+    lettered : (o : Option Letter) → o ≡ letter_of q letter → stepped coding (accepted q) letter b ≡ chosen o (λ x. not_lived 21 0 b) (λ l. reacted_to q l (state_of P W ms found) b)
     unfolding reacted
     lettered o e =
-        decoded (some (state_of P W u.start u.memory ms u.stopped)) (h.found f)
-        ∙ ap (λ (x : Option Letter). chosen x (λ y. not_lived 21 0 b) (λ l. reacted_to q l (state_of P W u.start u.memory ms u.stopped) b)) (sym e)
+        decoded (some (state_of P W ms found)) (h.found f)
+        ∙ ap (λ (x : Option Letter). chosen x (λ y. not_lived 21 0 b) (λ l. reacted_to q l (state_of P W ms found) b)) (sym e)
 
     pub foreign : none ≡ letter_of q letter → (r : Answer) → (r.number ≡ 21) × ((r.place ≡ 0) × (r.orders ≡ eight [])) → outcome r b ≡ stepped coding (accepted q) letter b
     foreign e r a = refused_as r b 21 0 a ∙ sym (lettered none e)
 
-    pub stated : (l : Letter) → some l ≡ letter_of q letter → Stated q P ms W u.start u.memory u.stopped l
+    pub stated : (l : Letter) → some l ≡ letter_of q letter → Stated q P ms W found l
     stated l e = record {
-      written = (code_decode q b (state_of P W u.start u.memory ms u.stopped) (h.found f)).0;
+      written = (code_decode q b (state_of P W ms found) (h.found f)).0;
       among = letter-among q letter l e;
     }
 
-    pub own : (l : Letter) → some l ≡ letter_of q letter → (x : Lived) → x ≡ reacted_to q l (state_of P W u.start u.memory ms u.stopped) b → x ≡ stepped coding (accepted q) letter b
+    pub own : (l : Letter) → some l ≡ letter_of q letter → (x : Lived) → x ≡ reacted_to q l (state_of P W ms found) b → x ≡ stepped coding (accepted q) letter b
     own l e x d = d ∙ sym (lettered (some l) e)

@@ -15,9 +15,9 @@ use Rattle.paper.specs.Discovery.{Among, letters}
 use Rattle.paper.specs.Calls.{Lived, eight, not_lived, lives_on}
 use Rattle.laws.proofs.Letters.{Once, false-not}
 use Rattle.laws.proofs.Reached.{among-event}
-use Rattle.rewrite.specs.declared.Memory.{Memory}
 use Rattle.rewrite.specs.Stored.{stored}
 use Rattle.rewrite.specs.Steps.{Stands}
+use Rattle.react.specs.declared.State.{State as Kept}
 use Rattle.react.specs.declared.Reacted.{Reacted}
 use Rattle.react.specs.States.{Ascends, Modules, state_of, Ready, Fits, Comes}
 use Rattle.coding.specs.Code.{code}
@@ -66,7 +66,7 @@ named-from k (e ∷ es) a x t = by-head (eqb x e) refl t (λ u. named-from (suc 
 named-below : (es : List ℕ) → Modules es → (x : ℕ) → T (has x es) → x < 26
 named-below es h x t = named-from 0 es h.ascend x t
 
-module _ (q : Program) (P ms es : List ℕ) (d : Loaded q P ms es) (W : List ℕ) (s : ℕ) (m : Memory) (fs : List ℕ) (l : Letter) (h : Stated q P ms W s m fs l) where
+module _ (q : Program) (P ms es : List ℕ) (d : Loaded q P ms es) (W : List ℕ) (was : Kept) (l : Letter) (h : Stated q P ms W was l) where
   pub letter-small : (a : ℕ) → l ≡ completion a → a < 256
   unfolding letters
   letter-small a e =
@@ -83,33 +83,33 @@ module _ (q : Program) (P ms es : List ℕ) (d : Loaded q P ms es) (W : List ℕ
       events-small x t = named-below es d.events x (subst (λ (ys : List ℕ). T (has x ys)) d.its.events_are t)
 
   -- different events of the program, and one more: at most eight
-  pub memory-room : length m.events ≡ 8 → m.count ≤ 8 → (e : ℕ) → l ≡ occurrence e → has e (stored m) ≡ false → m.count < 8
+  pub memory-room : length was.memory.events ≡ 8 → was.memory.count ≤ 8 → (e : ℕ) → l ≡ occurrence e → has e (stored was.memory) ≡ false → was.memory.count < 8
   unfolding Once has
   memory-room long few e k n =
       let w = h.written.memory in
-      let z : length (stored m) ≡ m.count = omega (arith, length-take m.count m.events) in
-      let c = once-shorter (e ∷ stored m) q.events (false-not (has e (stored m)) n, w.0) (λ x t. known x (eqb x e) refl t) in
+      let z : length (stored was.memory) ≡ was.memory.count = omega (arith, length-take was.memory.count was.memory.events) in
+      let c = once-shorter (e ∷ stored was.memory) q.events (false-not (has e (stored was.memory)) n, w.0) (λ x t. known x (eqb x e) refl t) in
       omega (arith, z, c, d.fit.few_events)
     where
-      known : (x : ℕ) (b : Bool) → eqb x e ≡ b → T (b || has x (stored m)) → T (has x q.events)
+      known : (x : ℕ) (b : Bool) → eqb x e ≡ b → T (b || has x (stored was.memory)) → T (has x q.events)
       known x true p t = subst (λ (y : ℕ). T (has y q.events)) (sym (eqb-true x e p)) (its-event e k)
       known x false p t = (h.written.memory.1 x t).0
 
-  pub ready : (T : List ℕ) → Stands P W s → length T ≡ 96 → length m.events ≡ 8 → m.count ≤ 8 → Ready P ms W s T m l
+  pub ready : (T : List ℕ) → Stands P W was.start → length T ≡ 96 → length was.memory.events ≡ 8 → was.memory.count ≤ 8 → Ready P ms W was T l
   ready T st t long few = record { table = d.table; modules = d.modules; stands = st; long = t; few = few; room = memory-room long few }
 
   module _ (ks : List Bool) (k : Kinds q ks) (f : Bool) (g : (e : ℕ) → l ≡ occurrence e → e < 26 → f ≡ get_or ks e false) where
     pub fits : Fits q ms l f
     fits = record { modules_are = d.its.modules_are; fugitive_is = λ e z. g e z (event-small e z) ∙ k e (event-small e z) }
 
-    module _ (W' : List ℕ) (r : Reacted) (c : Comes P W' ms r (reaction q l (state_of P W s m ms fs))) where
-      stored-known : (e : ℕ) → T (has e (stored r.memory)) → T (has e es)
+    module _ (W' : List ℕ) (r : Reacted) (c : Comes P W' ms r (reaction q l (state_of P W ms was))) where
+      stored-known : (e : ℕ) → T (has e (stored r.state.memory)) → T (has e es)
       stored-known e t =
-          let w = step_in q d.fit (state_of P W s m ms fs) l h.written h.among in
+          let w = step_in q d.fit (state_of P W ms was) l h.written h.among in
           subst (λ (ys : List ℕ). T (has e ys)) d.its.events_are
           (w.memory.1 e (subst (λ (x : State). T (has e x.memory)) c.state_is t)).0
 
-      pub packs : Packs P ms es W' r.start r.memory r.stopped
+      pub packs : Packs P ms es W' r.state
       packs = record {
         table = d.table;
         modules = d.modules;
@@ -118,13 +118,13 @@ module _ (q : Program) (P ms es : List ℕ) (d : Loaded q P ms es) (W : List ℕ
         flags = c.flags;
       }
 
-      pub goes : (b live live' : List ℕ) → b ≡ code q (state_of P W' r.start r.memory ms r.stopped) → live' ≡ b → possible l (state_of P W s m ms fs) ≡ true → outcome (record { number = 0; place = 0; orders = r.orders }) live' ≡ reacted_to q l (state_of P W s m ms fs) live
+      pub goes : (b live live' : List ℕ) → b ≡ code q (state_of P W' ms r.state) → live' ≡ b → possible l (state_of P W ms was) ≡ true → outcome (record { number = 0; place = 0; orders = r.orders }) live' ≡ reacted_to q l (state_of P W ms was) live
       goes b live live' e z p =
-          let x = reaction q l (state_of P W s m ms fs) in
+          let x = reaction q l (state_of P W ms was) in
           lives-as r.orders live' (code q x.state) x.does c.orders_are (z ∙ (e ∙ ap (code q) c.state_is))
           ∙ sym (ap (λ (t : Bool). cond t (lives_on x.does (code q x.state)) (not_lived 22 0 live)) p)
 
-  pub not-possible : (r : Answer) (live : List ℕ) → (r.number ≡ 22) × ((r.place ≡ 0) × (r.orders ≡ eight [])) → possible l (state_of P W s m ms fs) ≡ false → outcome r live ≡ reacted_to q l (state_of P W s m ms fs) live
+  pub not-possible : (r : Answer) (live : List ℕ) → (r.number ≡ 22) × ((r.place ≡ 0) × (r.orders ≡ eight [])) → possible l (state_of P W ms was) ≡ false → outcome r live ≡ reacted_to q l (state_of P W ms was) live
   not-possible r live a p =
-      let x = reaction q l (state_of P W s m ms fs) in
+      let x = reaction q l (state_of P W ms was) in
       refused_as r live 22 0 a ∙ sym (ap (λ (t : Bool). cond t (lives_on x.does (code q x.state)) (not_lived 22 0 live)) p)

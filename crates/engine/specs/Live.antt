@@ -7,7 +7,7 @@
 --     Kinds q fs            the flags fs say by letter which events of q are fugitive
 --     Begins ..             there is such a program: what `begin` is given
 --     Turns ..              what `turn` is given beside a letter and the bytes
---     Stated q .. l         a state of the written set stands in W, and l is a letter of q
+--     Stated q .. x l       the state x, whose word stands in W, is of the written set, and l is a letter of q
 --     Runs ..               there is such a program: what `go` is given
 --     Reads q r P           the reader's value r and the table P are of the program q; `Came`, `CameWith`: there is such a program, with these weights
 --     reacted_to q l s live  the outcome of a letter of the program in the state s: No. 22, or the reaction
@@ -21,8 +21,8 @@ use Rattle.paper.specs.Discovery.{Among, letters}
 use Rattle.paper.specs.Calls.{Lived, not_lived, lives_on}
 use Rattle.laws.specs.Nodes.{kind, count, tree}
 use Rattle.words.specs.Pieces.{Table}
-use Rattle.rewrite.specs.declared.Memory.{Memory}
 use Rattle.rewrite.specs.Steps.{Stands, letter_of}
+use Rattle.react.specs.declared.State.{State as Kept}
 use Rattle.react.specs.States.{Modules, Flags, state_of}
 use Rattle.coding.specs.Written.{nodes_of, Written}
 use Rattle.coding.specs.Code.{code}
@@ -75,18 +75,18 @@ pub record Turns (P vs ms es : List ℕ) (fs : List Bool) : Type 0 where
   pub weighted : Weighted P vs
   pub kinds : Kinds program fs
 
-pub record Stated (q : Program) (P ms W : List ℕ) (s : ℕ) (m : Memory) (stopped : List ℕ) (l : rules.Letter) : Type 0 where
-  pub written : Written q (state_of P W s m ms stopped)
+pub record Stated (q : Program) (P ms W : List ℕ) (x : Kept) (l : rules.Letter) : Type 0 where
+  pub written : Written q (state_of P W ms x)
   pub among : Among l (letters q)
 
-pub record Runs (P ms es : List ℕ) (fs : List Bool) (W : List ℕ) (s : ℕ) (m : Memory) (stopped : List ℕ) (l : rules.Letter) : Type 0 where
+pub record Runs (P ms es : List ℕ) (fs : List Bool) (W : List ℕ) (x : Kept) (l : rules.Letter) : Type 0 where
   pub program : Program
   pub loaded : Loaded program P ms es
   pub kinds : Kinds program fs
-  pub stated : Stated program P ms W s m stopped l
-  pub stands : Stands P W s
-  pub few : m.count ≤ 8
-  pub flags : Flags (length ms) stopped
+  pub stated : Stated program P ms W x l
+  pub stands : Stands P W x.start
+  pub few : x.memory.count ≤ 8
+  pub flags : Flags (length ms) x.stopped
 
 abbrev pub reacted_to : Program → rules.Letter → State → List ℕ → Lived
 reacted_to q l s live =

@@ -16,7 +16,7 @@ ghost use Rattle.coding.specs.Code.{coding};
 ghost use Rattle.engine.specs.Live.{outcome, meant, Letters, Loaded, Rooted, Begins, Kinds, Turns, Stated, Runs, reacted_to, Reads, Came, CameWith};
 
 use pack::{copy_out, pack, start_word};
-use react::{possible, react, runs_flags};
+use react::{Reacted, State, possible, react, runs_flags};
 use reader::{Program as Given, Verdict, read};
 use rewrite::{Letter, Memory};
 use text::kinds::{is_event, is_module};
@@ -105,7 +105,12 @@ pub fn begin(nodes: &[u8], root: usize, modules: &[u8], events: &[u8], live: &mu
         events: [0; 8],
         count: 0,
     };
-    let bytes = pack(nodes, modules, events, &w, s, memory, [0; 8]);
+    let state = State {
+        start: s,
+        memory,
+        stopped: [0; 8],
+    };
+    let bytes = pack(nodes, modules, events, &w, state);
     copy_out(bytes, live);
     Answer {
         number: 0,
@@ -123,32 +128,26 @@ pub fn go(
     live: &mut [u8],
     w: &mut [usize],
     tmp: &mut [usize],
-    s: usize,
-    memory: Memory,
-    stopped: [u8; 8],
+    state: State,
     letter: Letter,
 ) -> Answer
-    requires runs { Runs nodes.now modules.now events.now fugitive.now w.old s memory stopped (steps.letter_of letter) }
+    requires runs { Runs nodes.now modules.now events.now fugitive.now w.old state (steps.letter_of letter) }
     requires live_len { (length live.old ≡ 128) × (length tmp.old ≡ 96) }
     ensures { (q : Program) → Loaded q nodes.now modules.now events.now → Kinds q fugitive.now
-        → Stated q nodes.now modules.now w.old s memory stopped (steps.letter_of letter)
-        → outcome result live.new ≡ reacted_to q (steps.letter_of letter) (state_of nodes.now w.old s memory modules.now stopped) live.old }
+        → Stated q nodes.now modules.now w.old state (steps.letter_of letter)
+        → outcome result live.new ≡ reacted_to q (steps.letter_of letter) (state_of nodes.now w.old modules.now state) live.old }
 {
-    if !possible(nodes, w, s, letter) {
+    if !possible(nodes, w, state.start, letter) {
         return refuse(22, 0);
     }
     let passing = is_fugitive(fugitive, letter);
-    let r = react(nodes, modules, w, s, tmp, memory, stopped, letter, passing);
-    let start = r.start;
-    let more = r.memory;
-    let still = r.stopped;
-    let orders = r.orders;
-    let bytes = pack(nodes, modules, events, w, start, more, still);
+    let Reacted { state, orders } = react(nodes, modules, w, state, tmp, letter, passing);
+    let bytes = pack(nodes, modules, events, w, state);
     copy_out(bytes, live);
     Answer {
         number: 0,
         place: 0,
-        orders: orders,
+        orders,
     }
 }
 
@@ -174,14 +173,17 @@ fn turn(
     if !u.found {
         return refuse(23, 0);
     }
-    let start = u.start;
-    let memory = u.memory;
     let stopped = u.stopped;
+    let state = State {
+        start: u.start,
+        memory: u.memory,
+        stopped,
+    };
     let known = letter_of(modules, events, letter);
     match known {
         Known::Foreign => refuse(21, 0),
         Known::Own(l) => go(
-            nodes, modules, events, fugitive, live, &mut w, &mut tmp, start, memory, stopped, l,
+            nodes, modules, events, fugitive, live, &mut w, &mut tmp, state, l,
         ),
     }
 }

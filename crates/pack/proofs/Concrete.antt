@@ -17,7 +17,7 @@ use Rattle.pack.specs.Packing.{Packs, Names}
 abbrev pub stores : Memory
 stores = record { events = 4 ∷ replicate 7 0; count = 1 }
 
-pub packs : Packs nodes (0 ∷ []) (4 ∷ []) (replicate 94 0 ++ word) 94 stores (replicate 8 0)
+pub packs : Packs nodes (0 ∷ []) (4 ∷ []) (replicate 94 0 ++ word) (record { start = 94; memory = stores; stopped = replicate 8 0 })
 unfolding Ascends
 packs = record {
   table = table;

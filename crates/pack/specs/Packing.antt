@@ -2,7 +2,7 @@
 --     Wrote f a n b b'      b' is b but for the n places from a on, which have f 0, f 1 and so on
 --     Small us              each unit has ten bits
 --     Known es m            few events, and each of the stored ones is among them
---     Packs P ms es W s m fs    what is packed: a state's word over a table, a memory of known events, a flag for each module
+--     Packs P ms es W x     what is packed: a state x whose word over a table stands in W, with a memory of known events
 --     Names q P ms es       q is a program with this table of nodes, these modules and these events
 -- Assumes nothing.
 use Rattle.std.specs.Prelude.{ℕ, ◌+◌, ◌≤◌, ◌<◌, List, ◌≡◌, T, length, get_or}
@@ -12,6 +12,7 @@ use Rattle.words.specs.Pieces.{Table}
 use Rattle.rewrite.specs.declared.Memory.{Memory}
 use Rattle.rewrite.specs.Steps.{Stands}
 use Rattle.rewrite.specs.Stored.{stored}
+use Rattle.react.specs.declared.State.{State}
 use Rattle.react.specs.States.{Modules, Flags}
 use Rattle.coding.specs.Written.{nodes_of}
 
@@ -28,12 +29,12 @@ pub record Known (es : List ℕ) (m : Memory) : Type 0 where
   pub count : m.count ≤ 8
   pub among : (e : ℕ) → T (has e (stored m)) → T (has e es)
 
-pub record Packs (P ms es W : List ℕ) (s : ℕ) (m : Memory) (fs : List ℕ) : Type 0 where
+pub record Packs (P ms es W : List ℕ) (x : State) : Type 0 where
   pub table : Table P
   pub modules : Modules ms
-  pub stands : Stands P W s
-  pub memory : Known es m
-  pub flags : Flags (length ms) fs
+  pub stands : Stands P W x.start
+  pub memory : Known es x.memory
+  pub flags : Flags (length ms) x.stopped
 
 pub record Names (q : Program) (P ms es : List ℕ) : Type 0 where
   pub nodes_are : nodes_of q ≡ P

@@ -14,6 +14,7 @@ ghost use Rattle.coding.specs.Layout.{low, high_of, high, pair, set_number, plac
 ghost use Rattle.coding.specs.Code.{code};
 ghost use Rattle.pack.specs.Packing.{Wrote, Small, Known, Packs, Names};
 
+use react::State;
 use rewrite::Memory;
 
 fn wide(x: u8) -> usize
@@ -129,24 +130,16 @@ fn put_marks(events: &[u8], memory: Memory, b: &mut [u8])
 
 // The 128 bytes of a state: a zeroed array, filled with its code. The table says what the word's units mean, and is not read.
 // Ruled out (must-fail/): high bits of the next unit.
-pub fn pack(
-    p: &[u8],
-    modules: &[u8],
-    events: &[u8],
-    w: &[usize],
-    s: usize,
-    memory: Memory,
-    stopped: [u8; 8],
-) -> [u8; 128]
-    requires { Packs p.now modules.now events.now w.now s memory stopped }
-    ensures { (q : Program) → Names q p.now modules.now events.now → result ≡ code q (state_of p.now w.now s memory modules.now stopped) }
+pub fn pack(p: &[u8], modules: &[u8], events: &[u8], w: &[usize], state: State) -> [u8; 128]
+    requires { Packs p.now modules.now events.now w.now state }
+    ensures { (q : Program) → Names q p.now modules.now events.now → result ≡ code q (state_of p.now w.now modules.now state) }
 {
     let mut b = [0u8; 128];
-    put_low(w, s, &mut b);
-    put_high(w, s, &mut b);
-    b[120] = (96 - s) as u8;
-    b[121] = set_number(modules, stopped);
-    put_marks(events, memory, &mut b);
+    put_low(w, state.start, &mut b);
+    put_high(w, state.start, &mut b);
+    b[120] = (96 - state.start) as u8;
+    b[121] = set_number(modules, state.stopped);
+    put_marks(events, state.memory, &mut b);
     b
 }
 

@@ -371,7 +371,7 @@ module _ {q : Program} {P ms es : List ℕ} {fs : List Bool} (of : Of q P ms es 
         subst (λ (x : List ℕ). Passed x q.modules q.events fs b) (sym of.nodes_are)
         (subst (λ (x : List ℕ). Passed P x q.events fs b) (sym of.modules_are) (subst (λ (x : List ℕ). Passed P ms x fs b) (sym of.events_are) p))
 
-    said-is : said q b ≡ state_of P W s m ms flags
+    said-is : said q b ≡ state_of P W ms (record { start = s; memory = m; stopped = flags })
     unfolding said
     said-is =
         let l : left_of (terms (nodes_of q) (word_in b)) ≡ state P W s = rw (of.nodes_are, fills) in
@@ -379,7 +379,7 @@ module _ {q : Program} {P ms es : List ℕ} {fs : List Bool} (of : Of q P ms es 
         let t : set_of q.modules (get_or b 121 0) ≡ stopped_of ms flags = rw of.modules_are (sym stops) in
         λ i. record { left = l i; memory = e i; stopped = t i }
 
-    pub takes : decode q b ≡ some (state_of P W s m ms flags)
+    pub takes : decode q b ≡ some (state_of P W ms (record { start = s; memory = m; stopped = flags }))
     takes = decoded q fs of.fit own-mods own-evs of.fugitive_are b long small own c a ∙ ap some said-is
 
 pub stands : {P : List ℕ} (ms W : List ℕ) (s : ℕ) → Sound P ms (drop s W) → length (terms P (drop s W)) ≤ 1 → length W ≡ 96 → s ≤ 96 → Stands P W s

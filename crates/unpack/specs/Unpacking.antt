@@ -73,7 +73,7 @@ pub record Zeros (r : Unpacked) : Type 0 where
   pub stopped : r.stopped ≡ replicate 8 0
 
 pub record Decodes (q : Program) (P W ms b : List ℕ) (r : Unpacked) : Type 0 where
-  pub found : r.found ≡ true → decode q b ≡ some (state_of P W r.start r.memory ms r.stopped)
+  pub found : r.found ≡ true → decode q b ≡ some (state_of P W ms (record { start = r.start; memory = r.memory; stopped = r.stopped }))
   pub stands : r.found ≡ true → Stands P W r.start
   pub few : r.memory.count ≤ 8
   pub flags : Flags (length ms) r.stopped

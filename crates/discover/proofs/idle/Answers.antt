@@ -8,7 +8,7 @@ pub passes-requires : goal.passes-requires
 passes-requires c = (c.requires.0, (c.requires.1.0, (c.requires.1.1.0, c.requires.1.1.1 _ (ap letter_of c.in-Occurrence.is))))
 
 pub returns-in-Completion : goal.returns-in-Completion
-returns-in-Completion c = λ q k ms st o. clash (cc)
+returns-in-Completion c = λ q k ms o. clash (cc)
 
 pub returns-in-Occurrence : goal.returns-in-Occurrence
-returns-in-Occurrence c = λ q k ms st o. (c.in-Occurrence.e, ap letter_of c.in-Occurrence.is, c.passes.ensures q k ms st o)
+returns-in-Occurrence c = λ q k ms o. (c.in-Occurrence.e, ap letter_of c.in-Occurrence.is, c.passes.ensures q k ms o)

@@ -13,7 +13,7 @@ pub overflow_add-n : goal.overflow_add-n
 overflow_add-n c = omega (arith, c.requires.standing.loaded.modules.few, c.requires.standing.loaded.events.few)
 
 pub loop-j-init : goal.loop-j-init
-loop-j-init c = ((refl, (refl, (refl, (refl, refl)))), (omega arith, (refl, λ q d k v ss h e i. turning-none q (state_of c.args.nodes.now c.args.w.now c.args.s c.args.memory c.args.modules.now c.args.stopped) ss c.args.work.now c.args.index.now c.args.entries.now c.args.at c.args.count h e)))
+loop-j-init c = ((refl, (refl, (refl, (refl, refl)))), (omega arith, (refl, λ q d k v ss h e i. turning-none q (state_of c.args.nodes.now c.args.w.now c.args.modules.now c.args.state) ss c.args.work.now c.args.index.now c.args.entries.now c.args.at c.args.count h e)))
 
 pub letter_at-letter-requires : goal.letter_at-letter-requires
 letter_at-letter-requires c = omega (arith, c.loop-j.invariant)
@@ -27,7 +27,7 @@ meet-a-requires c =
         program = q;
         loaded = c.requires.standing.loaded;
         kinds = c.requires.standing.kinds;
-        stated = stated-of q c.args.nodes.now c.args.modules.now c.args.w.now c.args.s c.args.memory c.args.stopped _ c.requires.standing.written c.loop-j.j _ (c.letter_at-letter.ensures q c.requires.standing.loaded.its);
+        stated = stated-of q c.args.nodes.now c.args.modules.now c.args.w.now c.args.state _ c.requires.standing.written c.loop-j.j _ (c.letter_at-letter.ensures q c.requires.standing.loaded.its);
         stands = c.requires.standing.stands;
         few = c.requires.standing.few;
         flags = c.requires.standing.flags;
@@ -38,7 +38,7 @@ meet-a-requires c =
         tmp = omega (arith, c.requires.room.tmp, c.loop-j.invariant.0);
         work = omega (arith, c.requires.room.work, c.loop-j.invariant.0);
         index = omega (arith, c.requires.room.index, c.loop-j.invariant.0);
-        few = omega (arith, t.count_is, seen_few q c.loop-j.work c.loop-j.index (met q (state_of c.args.nodes.now c.args.w.now c.args.s c.args.memory c.args.modules.now c.args.stopped) (take c.loop-j.j (letters q)) c.requires.standing.states) t.seen);
+        few = omega (arith, t.count_is, seen_few q c.loop-j.work c.loop-j.index (met q (state_of c.args.nodes.now c.args.w.now c.args.modules.now c.args.state) (take c.loop-j.j (letters q)) c.requires.standing.states) t.seen);
       };
       k_bound = omega (arith, c.requires.standing.numbered.1, c.requires.standing.count_is, c.requires.room.few);
     }
@@ -62,10 +62,10 @@ pub returns-then-a : goal.returns-then-a
 returns-then-a c = λ q d k v ss h e i.
     let t = c.loop-j.invariant.1.1.1 q d k v ss h e i in
     let n = c.letter_at-letter.ensures q d.its in
-    let a = stated-of q c.args.nodes.now c.args.modules.now c.args.w.now c.args.s c.args.memory c.args.stopped _ v c.loop-j.j _ n in
-    turns-over q (state_of c.args.nodes.now c.args.w.now c.args.s c.args.memory c.args.modules.now c.args.stopped) ss c.meet-a.new.work c.meet-a.new.index c.args.entries.now c.loop-j.entries c.args.at 0
-    (turning-over q (state_of c.args.nodes.now c.args.w.now c.args.s c.args.memory c.args.modules.now c.args.stopped) ss c.loop-j.work c.loop-j.index c.args.entries.now c.loop-j.entries c.args.at c.loop-j.j c.loop-j.seen t _ _ n c.meet-a.new.work c.meet-a.new.index c.meet-a.result
-    (c.meet-a.ensures q d k a (met q (state_of c.args.nodes.now c.args.w.now c.args.s c.args.memory c.args.modules.now c.args.stopped) (take c.loop-j.j (letters q)) ss) t.seen (sym t.count_is) (numbered-on (state_of c.args.nodes.now c.args.w.now c.args.s c.args.memory c.args.modules.now c.args.stopped) ss c.args.k _ i)) c.if-a.true)
+    let a = stated-of q c.args.nodes.now c.args.modules.now c.args.w.now c.args.state _ v c.loop-j.j _ n in
+    turns-over q (state_of c.args.nodes.now c.args.w.now c.args.modules.now c.args.state) ss c.meet-a.new.work c.meet-a.new.index c.args.entries.now c.loop-j.entries c.args.at 0
+    (turning-over q (state_of c.args.nodes.now c.args.w.now c.args.modules.now c.args.state) ss c.loop-j.work c.loop-j.index c.args.entries.now c.loop-j.entries c.args.at c.loop-j.j c.loop-j.seen t _ _ n c.meet-a.new.work c.meet-a.new.index c.meet-a.result
+    (c.meet-a.ensures q d k a (met q (state_of c.args.nodes.now c.args.w.now c.args.modules.now c.args.state) (take c.loop-j.j (letters q)) ss) t.seen (sym t.count_is) (numbered-on (state_of c.args.nodes.now c.args.w.now c.args.modules.now c.args.state) ss c.args.k _ i)) c.if-a.true)
 
 pub overflow_add-entries : goal.overflow_add-entries
 overflow_add-entries c = omega (arith, c.requires.events_bound, c.loop-j.invariant, c.loop-j-test.true)
@@ -92,9 +92,9 @@ loop-j-preserved c = (
       λ q d k v ss h e i.
           let t = c.loop-j.invariant.1.1.1 q d k v ss h e i in
           let n = c.letter_at-letter.ensures q d.its in
-          let a = stated-of q c.args.nodes.now c.args.modules.now c.args.w.now c.args.s c.args.memory c.args.stopped _ v c.loop-j.j _ n in
-          turning-next q (state_of c.args.nodes.now c.args.w.now c.args.s c.args.memory c.args.modules.now c.args.stopped) ss c.loop-j.work c.loop-j.index c.args.entries.now c.loop-j.entries c.args.at c.loop-j.j c.loop-j.seen t _ _ n c.meet-a.new.work c.meet-a.new.index c.meet-a.result
-          (c.meet-a.ensures q d k a (met q (state_of c.args.nodes.now c.args.w.now c.args.s c.args.memory c.args.modules.now c.args.stopped) (take c.loop-j.j (letters q)) ss) t.seen (sym t.count_is) (numbered-on (state_of c.args.nodes.now c.args.w.now c.args.s c.args.memory c.args.modules.now c.args.stopped) ss c.args.k _ i)) c.if-a.false (omega (arith, c.requires.events_bound, c.loop-j.invariant, c.loop-j-test.true)),
+          let a = stated-of q c.args.nodes.now c.args.modules.now c.args.w.now c.args.state _ v c.loop-j.j _ n in
+          turning-next q (state_of c.args.nodes.now c.args.w.now c.args.modules.now c.args.state) ss c.loop-j.work c.loop-j.index c.args.entries.now c.loop-j.entries c.args.at c.loop-j.j c.loop-j.seen t _ _ n c.meet-a.new.work c.meet-a.new.index c.meet-a.result
+          (c.meet-a.ensures q d k a (met q (state_of c.args.nodes.now c.args.w.now c.args.modules.now c.args.state) (take c.loop-j.j (letters q)) ss) t.seen (sym t.count_is) (numbered-on (state_of c.args.nodes.now c.args.w.now c.args.modules.now c.args.state) ss c.args.k _ i)) c.if-a.false (omega (arith, c.requires.events_bound, c.loop-j.invariant, c.loop-j-test.true)),
     ),
   ),
 )
@@ -116,5 +116,5 @@ shape_of-entries c = c.loop-j.invariant.0.1.1.1.1
 
 pub returns : goal.returns
 returns c = λ q d k v ss h e i.
-    turning-all q (state_of c.args.nodes.now c.args.w.now c.args.s c.args.memory c.args.modules.now c.args.stopped) ss c.loop-j.work c.loop-j.index c.args.entries.now c.loop-j.entries c.args.at c.loop-j.j c.loop-j.seen (c.loop-j.invariant.1.1.1 q d k v ss h e i)
+    turning-all q (state_of c.args.nodes.now c.args.w.now c.args.modules.now c.args.state) ss c.loop-j.work c.loop-j.index c.args.entries.now c.loop-j.entries c.args.at c.loop-j.j c.loop-j.seen (c.loop-j.invariant.1.1.1 q d k v ss h e i)
     (omega (arith, letters-long q c.args.modules.now c.args.events.now d.its, c.loop-j.invariant, c.loop-j-test.false)) (omega (arith, letters-long q c.args.modules.now c.args.events.now d.its, c.loop-j.invariant, c.loop-j-test.false))

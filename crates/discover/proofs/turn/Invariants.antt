@@ -15,8 +15,8 @@ abbrev pub invariant-loop-j : goal.invariant-loop-j
 invariant-loop-j l =
     ((length l.next ≡ length l.initial.next) × ((length l.tmp ≡ length l.initial.tmp) × ((length l.work ≡ length l.initial.work) × ((length l.index ≡ length l.initial.index) × (length l.entries ≡ length l.initial.entries)))))
     × ((l.j ≤ l.n) × ((l.n ≡ length l.modules + length l.events)
-    × ((q : Program) → Loaded q l.nodes l.modules l.events → Kinds q l.fugitive → Written q (state_of l.nodes l.w l.s l.memory l.modules l.stopped) → (ss : List State) → Seen q l.initial.work l.initial.index ss → length ss ≡ l.count → Numbered (state_of l.nodes l.w l.s l.memory l.modules l.stopped) ss l.k
-    → Turning q (state_of l.nodes l.w l.s l.memory l.modules l.stopped) ss l.work l.index l.initial.entries l.entries l.at l.j l.seen)))
+    × ((q : Program) → Loaded q l.nodes l.modules l.events → Kinds q l.fugitive → Written q (state_of l.nodes l.w l.modules l.state) → (ss : List State) → Seen q l.initial.work l.initial.index ss → length ss ≡ l.count → Numbered (state_of l.nodes l.w l.modules l.state) ss l.k
+    → Turning q (state_of l.nodes l.w l.modules l.state) ss l.work l.index l.initial.entries l.entries l.at l.j l.seen)))
 
 abbrev pub decreases-loop-j : goal.decreases-loop-j
 decreases-loop-j l =

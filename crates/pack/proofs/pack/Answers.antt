@@ -11,7 +11,7 @@ put_high-requires c = (search rules, (small_units c.requires, search rules))
 
 pub returns : goal.returns
 returns c =
-    let l : length c.args.memory.events ≡ 8 = search rules in
+    let l : length c.args.state.memory.events ≡ 8 = search rules in
     let two : length c.put_high.new.b ≡ 128 = search rules in
     let three : length c.put_marks.new.b ≡ 128 = search rules in
     code_is c.requires l c.put_low.ensures c.put_high.ensures two c.set_number.ensures c.put_marks.ensures three
