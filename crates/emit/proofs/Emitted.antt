@@ -1,6 +1,6 @@
 -- Bytes whose front bits are a table's bits and zeros to a whole byte are the table's bytes, and those behind are as they were: bits determine bytes.
 -- Assumes nothing.
-use Prim.Native.Nat.{ℕ, zero, suc, ◌+◌, ◌-◌, ◌*◌, ◌≤◌, ◌<◌}
+use Prim.Native.Nat.{ℕ, zero, suc, ◌+◌, ◌-◌, ◌*◌, ◌/◌, ◌≤◌, ◌<◌}
 use mathlib.Core.Path.{◌≡◌, sym, ap, ap₂, ◌∙◌, subst}
 use mathlib.Core.Bool.{Bool}
 use mathlib.Core.List.{List, [], ◌∷◌, ◌++◌}
@@ -13,14 +13,14 @@ use Rattle.paper.specs.Lists.{gather}
 use Rattle.paper.specs.Table.{Table, bits, packed, table_bits, written}
 use Rattle.paper.specs.IsTable.{bits_of}
 use Rattle.fields.specs.Window.{Bytes}
-use Rattle.fields.specs.Runs.{Appended}
+use Rattle.fields.specs.Runs.{Appended, Puts}
+use Rattle.fields.specs.declared.FieldWriter.{FieldWriter}
 use Rattle.fields.proofs.Bits.{bits_of-length, bits_of-append, bits_of-drop}
 use Rattle.fields.proofs.Packed.{packed-is}
+use Rattle.fields.proofs.Runs.{puts_then}
 use Rattle.fields.proofs.Unique.{bits-inj}
-use Rattle.layout.proofs.Places.{end-le}
 use Rattle.emit.specs.Entries.{Tells}
-use Rattle.emit.specs.Fills.{Emits, Puts, kind_bits, head_of, entry_word, filled}
-use Rattle.emit.proofs.Loops.{and_then}
+use Rattle.emit.specs.Fills.{kind_bits, head_of, entry_word, filled}
 use Rattle.emit.proofs.Told.{part_bits, told}
 
 bytes_drop : (n : ℕ) (s : List ℕ) → Bytes s → Bytes (drop n s)
@@ -55,25 +55,26 @@ packs d e bs k r hd he l h hk p =
 
 -- ---- emit
 
--- the last bit of any table lies within the room
-pub emit-end : {ms es : List ℕ} {states n o : ℕ} (at : ℕ) → Emits ms es states n o → at ≡ 24 + 6 * (length ms + length es)
-    → at + states * (length ms + length es) * (10 + 2 * length ms) ≤ 213112
-emit-end {ms} {es} {states} at h e = omega (arith, end-le (length ms) (length es) states h.few_modules h.few_events h.few_states)
-
-pub emitted : {d d₁ d₂ d₃ d₄ d₅ d₆ d₇ ms es rs ns : List ℕ} {fs : List Bool} {states a b c x y z v₁ v₂ v₃ v₄ v₅ v₆ r : ℕ}
-    → Puts d d₁ 0 (head_of (length ms) (length es) states) v₁ a
-    → Puts d₁ d₂ a (gather (bits 5) ms) v₂ b
-    → Puts d₂ d₃ b (gather (bits 5) es) v₃ c
-    → Puts d₃ d₄ c (gather (kind_bits fs) es) v₄ x
-    → Puts d₄ d₅ x (gather (bits 1) (take (length ms) rs)) v₅ y
-    → Puts d₅ d₆ y (gather (entry_word (length ms)) (take (states * (length ms + length es)) ns)) v₆ z
-    → (r ≡ filled z) × Puts d₆ d₇ z (replicate (8 * filled z - z) 0) (8 * filled z - z) (8 * filled z)
-    → Bytes d → Bytes d₇ → length d₇ ≡ length d → filled z ≤ length d
-    → (t : Table) → Tells t ms es fs rs states ns → (r ≡ length (written t)) × (d₇ ≡ written t ++ drop (length (written t)) d)
+-- x is what the last writer leaves
+pub emitted : {u v₁ v₂ v₃ v₄ v₅ v₆ w : FieldWriter} {ms es rs ns x : List ℕ} {fs : List Bool} {states n₁ n₂ n₃ n₄ n₅ n₆ n₇ : ℕ}
+    → Puts u v₁ (head_of (length ms) (length es) states) n₁
+    → Puts v₁ v₂ (gather (bits 5) ms) n₂
+    → Puts v₂ v₃ (gather (bits 5) es) n₃
+    → Puts v₃ v₄ (gather (kind_bits fs) es) n₄
+    → Puts v₄ v₅ (gather (bits 1) (take (length ms) rs)) n₅
+    → Puts v₅ v₆ (gather (entry_word (length ms)) (take (states * (length ms + length es)) ns)) n₆
+    → Puts v₆ w (replicate (8 * filled v₆.bit - v₆.bit) 0) n₇ → w.bit ≡ 8 * filled v₆.bit → x ≡ w.out.now
+    → u.bit ≡ 0 → Bytes u.out.now → Bytes x → filled v₆.bit ≤ length u.out.now → (t : Table) → Tells t ms es fs rs states ns
+    → (w.bit / 8 ≡ length (written t)) × (x ≡ written t ++ drop (length (written t)) u.out.now)
 unfolding written
-emitted {d} {d₇ = d₇} {ms} {es} {rs} {ns} {fs} {states} {z = z} p₁ p₂ p₃ p₄ p₅ p₆ p₇ hd hf l h t q =
-    let e : table_bits t ≡ part_bits ms es fs rs states ns = told t ms es fs rs states ns q in
-    let k : ℕ = 8 * filled z - z in
-    let all = and_then (and_then (and_then (and_then (and_then (and_then p₁.appended p₂.appended) p₃.appended) p₄.appended) p₅.appended) p₆.appended) p₇.1.appended in
-    let w = packs d d₇ (table_bits t) k (filled z) hd hf l h (omega arith) (subst (λ (bs : List ℕ). Appended d d₇ 0 (bs ++ replicate k 0) (8 * filled z)) (sym e) all) in
-    (p₇.0 ∙ w.0, w.1)
+emitted {u} {v₆ = v} {w} {ms} {es} {rs} {ns} {x} {fs} {states} p₁ p₂ p₃ p₄ p₅ p₆ p₇ e xe hu hb hx l t q =
+    let bs : List ℕ = part_bits ms es fs rs states ns in
+    let k : ℕ = 8 * filled v.bit - v.bit in
+    let all = puts_then (puts_then (puts_then (puts_then (puts_then (puts_then p₁ p₂) p₃) p₄) p₅) p₆) p₇ in
+    let run : Appended u.out.now w.out.now 0 (bs ++ replicate k 0) (8 * filled v.bit) =
+    subst (λ (n : ℕ). Appended u.out.now w.out.now n (bs ++ replicate k 0) (8 * filled v.bit)) hu (subst (Appended u.out.now w.out.now u.bit (bs ++ replicate k 0)) e all.appended)
+    in
+    let r = packs u.out.now x bs k (filled v.bit) hb hx (ap length xe ∙ all.same_length) l (omega arith) (subst (λ (y : List ℕ). Appended u.out.now y 0 (bs ++ replicate k 0) (8 * filled v.bit)) (sym xe) run) in
+    let f : w.bit / 8 ≡ filled v.bit = omega arith in
+    let g : bs ≡ table_bits t = sym (told t ms es fs rs states ns q) in
+    (f ∙ r.0 ∙ ap (λ (b : List ℕ). length (packed b)) g, r.1 ∙ ap (λ (b : List ℕ). packed b ++ drop (length (packed b)) u.out.now) g)

@@ -12,13 +12,14 @@ use lib.Pow.{pow-add, shr-shr, shl-shr}
 use Rattle.paper.specs.Lists.{gather}
 use Rattle.paper.specs.Table.{Entry, flag, bits, entry_bits}
 use Rattle.paper.specs.Calls.{eight}
-use Rattle.fields.specs.Runs.{Appended}
+use Rattle.fields.specs.Runs.{Puts}
+use Rattle.fields.specs.declared.FieldWriter.{FieldWriter}
 use Rattle.fields.proofs.Bits.{bits-take, bits-drop, bits-join}
 use Rattle.layout.specs.InRange.{EntryInRange}
 use Rattle.layout.proofs.Parts.{entry-parts}
 use Rattle.emit.specs.Entries.{orders_from, entry_number}
 use Rattle.emit.specs.Fills.{entry_word}
-use Rattle.emit.proofs.Loops.{and_then}
+use Rattle.fields.proofs.Runs.{puts_then}
 
 -- ---- an entry's bits in three parts
 
@@ -37,9 +38,12 @@ word_split n v h =
     (ap (λ (k : ℕ). bits k q) e ∙ bits-split (10 + n) n q
     ∙ ap (λ (l : List ℕ). l ++ bits n q) (bits-split 10 n (q / 2 ^ n) ∙ ap₂ (λ (a b : ℕ). bits 10 a ++ bits n b) y x))
 
-pub word-put : {d e f g : List ℕ} {at b c r : ℕ} (n v : ℕ) → n ≤ 8 → Appended d e at (bits 10 (v / 2 ^ 16)) b → Appended e f b (bits n (v / 2 ^ (16 - n))) c
-    → Appended f g c (bits n (v / 2 ^ (16 - 2 * n))) r → Appended d g at (entry_word n v) r
-word-put {d} {e} {f} {g} {at} {b} {c} {r} n v h x y z = subst (λ (l : List ℕ). Appended d g at l r) (word_split n v h) (and_then (and_then x y) z)
+pub word-put : {u v w x : FieldWriter} (n e : ℕ) → n ≤ 8 → Puts u v (bits 10 (e / 2 ^ 16)) 10 → Puts v w (bits n (e / 2 ^ (16 - n))) n
+    → Puts w x (bits n (e / 2 ^ (16 - 2 * n))) n → Puts u x (entry_word n e) (10 + 2 * n)
+word-put {u} {v} {w} {x} n e h p q r =
+    let f : 10 + n + n ≡ 10 + 2 * n = omega arith in
+    subst (λ (l : List ℕ). Puts u x l (10 + 2 * n)) (word_split n e h)
+    (subst (Puts u x (bits 10 (e / 2 ^ 16) ++ bits n (e / 2 ^ (16 - n)) ++ bits n (e / 2 ^ (16 - 2 * n)))) f (puts_then (puts_then p q) r))
 
 -- ---- orders behind a number
 

@@ -1,15 +1,14 @@
 -- What the writing of a table asks of its caller, and what each part of it writes. "26,640" bytes are 213,120 bits.
 --     Emits ms es states n o        what `emit` asks: names, states, n entries, o bytes to write to
---     Room d end            the bits up to `end` are there, in as many bytes as any table has
---     Puts d e at fs w end  the w bits fs are written at `at`, all others are as they were
+--     Room w n              the writer w has as many bytes as any table, and n bits more lie within it
 --     head_of m n states     the bits of layout, counts of modules and events, states less one
 --     kind_bits fs e         the bit of the event e, 1 for fugitive
 --     entry_word m n         the bits of an entry's number n: possible, next state, the orders of m modules
 --     filled at             how many bytes hold the bits below `at`
 -- Assumes nothing.
-use Rattle.std.specs.Prelude.{ℕ, ◌+◌, ◌-◌, ◌*◌, ◌/◌, ◌^◌, ◌≤◌, ◌<◌, ◌≡◌, Bool, false, List, ◌++◌, length, get_or}
+use Rattle.std.specs.Prelude.{ℕ, ◌+◌, ◌-◌, ◌*◌, ◌/◌, ◌^◌, ◌≤◌, ◌<◌, Bool, false, List, ◌++◌, length, get_or}
 use Rattle.paper.specs.Table.{flag, bits}
-use Rattle.fields.specs.Runs.{Appended}
+use Rattle.fields.specs.declared.FieldWriter.{FieldWriter}
 
 pub record Emits (ms es : List ℕ) (states n o : ℕ) : Type 0 where
   pub few_modules : length ms ≤ 8
@@ -20,13 +19,9 @@ pub record Emits (ms es : List ℕ) (states n o : ℕ) : Type 0 where
   pub all : states * (length ms + length es) ≤ n
   pub long : 26640 ≤ o
 
-pub record Room (d : List ℕ) (end : ℕ) : Type 0 where
-  pub long : 26640 ≤ length d
-  pub within : end ≤ 213120
-
-pub record Puts (d e : List ℕ) (at : ℕ) (fs : List ℕ) (w end : ℕ) : Type 0 where
-  pub ends : end ≡ at + w
-  pub appended : Appended d e at fs end
+pub record Room (w : FieldWriter) (n : ℕ) : Type 0 where
+  pub long : 26640 ≤ length w.out.now
+  pub within : w.bit + n ≤ 213120
 
 abbrev pub kind_bits : List Bool → ℕ → List ℕ
 kind_bits fs e = bits 1 (flag (get_or fs e false))

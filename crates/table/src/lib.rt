@@ -8,6 +8,7 @@ ghost use Rattle.counts.specs.Counts.{Counted};
 ghost use Rattle.table.specs.Answers.{stepped, found_says, Fine, fields_from, place_of, Indexed};
 
 use counts::{Counts, Shape, entry_place};
+use fields::FieldReader;
 use valid::checked;
 
 // What start and step answer: number and place, or the state and an order for each module.
@@ -49,7 +50,7 @@ fn orders(t: &[u8], bit: usize, width: usize, count: usize) -> [u8; 8]
     let mut out = [0u8; 8];
     let mut k: usize = 0;
     while k < count {
-        out[k] = fields::read(t, bit + width * k, width) as u8;
+        out[k] = FieldReader::new(t, bit + width * k).next(width) as u8;
         k += 1;
     }
     out

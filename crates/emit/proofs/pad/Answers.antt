@@ -4,4 +4,4 @@ use Rattle.emit.proofs.Loops.{padded}
 use Rattle.emit.proofs.pad.Goals as goal
 
 pub returns : goal.returns
-returns c = padded c.args.bit c.append.result c.append.ensures.0 c.append.ensures.1
+returns c = padded c.args.w.now c.append.new.self c.append.ensures

@@ -1,25 +1,12 @@
 -- `emit::put_names` meets its contract, by the invariant of its loop.
 -- Assumes nothing.
-use native.Mathlib.Omega.{arith}
 use mathlib.Core.Path.{ap}
 use Rattle.paper.specs.Table.{bits}
-use Rattle.emit.proofs.Loops.{going-none, going_more, going-all}
+use Rattle.emit.proofs.Loops.{going-none, going-more}
 use Rattle.emit.proofs.put_names.Goals as goal
 
-pub loop-i-init : goal.loop-i-init
-loop-i-init c = (omega arith, going-none (bits 5) c.args.names.now 5 c.args.out.now c.args.bit)
+pub loop-name-init : goal.loop-name-init
+loop-name-init c = going-none (bits 5) c.args.names.now 5 c.args.w.now
 
-pub append-at-requires : goal.append-at-requires
-append-at-requires c = (omega arith, (omega (arith, c.loop-i.invariant, c.requires), omega (arith, c.loop-i.invariant, c.requires)))
-
-pub loop-i-smaller : goal.loop-i-smaller
-loop-i-smaller c = omega (arith, c.loop-i.invariant)
-
-pub loop-i-preserved : goal.loop-i-preserved
-loop-i-preserved c = (omega (arith, c.loop-i.invariant, c.loop-i-test.true), going_more c.loop-i.invariant.1 c.loop-i-test.true (ap (bits 5) c.wide.ensures) c.append-at.auto.out c.append-at.ensures.0 c.append-at.ensures.1)
-
-pub shape_of-out : goal.shape_of-out
-shape_of-out c = c.loop-i.invariant.1.same
-
-pub returns : goal.returns
-returns c = going-all _ c.loop-i.invariant.1 (omega (arith, c.loop-i.invariant, c.loop-i-test.false)) (omega arith)
+pub loop-name-preserved : goal.loop-name-preserved
+loop-name-preserved c = going-more c.loop-name.invariant c.loop-name-test.true (ap (bits 5) c.from.ensures) c.append.ensures

@@ -1,10 +1,7 @@
 -- `fields::with_bit` meets its contract: the three parts share no bit, so `|` adds them up to `put_bit` (`with-bit`).
 -- Assumes nothing.
-use Rattle.fields.proofs.Puts.{one_up, with-bit}
+use Rattle.fields.proofs.Puts.{with-bit}
 use Rattle.fields.proofs.with_bit.Goals as goal
-
-pub overflow_sub-result : goal.overflow_sub-result
-overflow_sub-result c = one_up c.args.place c.requires.1.0
 
 pub returns : goal.returns
 returns c =
