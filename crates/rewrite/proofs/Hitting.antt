@@ -1,17 +1,18 @@
 -- What hitting an interruption asks of its calls, and what it leaves, by the kind of its node; and `/`, struck or not.
 -- A side of `||` that is not struck is `1/I`, which a rewriting leaves as it is. Assumes nothing.
-use Prim.Native.Nat.{ℕ, ◌+◌, ◌-◌, ◌≤◌}
+use Prim.Native.Nat.{ℕ, ◌+◌, ◌≤◌}
 use mathlib.Core.Bool.{Bool, true, false}
 use mathlib.Core.List.{List, [], ◌∷◌}
-use mathlib.Core.Path.{◌≡◌, ap, sym, ◌∙◌}
+use mathlib.Core.Path.{◌≡◌, sym, ◌∙◌}
 use native.Mathlib.Omega.{arith}
 use Rattle.paper.specs.Term.{Term, Intr, Left, One, Act, Treat, Either, Both, still}
 use Rattle.paper.specs.Rewriting.{Letter, strikes, par_l, act_l, hit, rewritten}
 use Rattle.laws.specs.Nodes.{tree, intr}
 use Rattle.laws.specs.Weight.{weight, weight_i, room}
-use Rattle.words.specs.Word.{u_wait, mark, apply, Fine, Holds}
+use Rattle.words.specs.declared.Unit.TheVariants.{Wait}
+use Rattle.words.specs.Word.{mark, apply, Fine, Holds}
 use Rattle.words.specs.Pieces.{Cols, Put, Asks, Drawn, Made}
-use Rattle.words.proofs.Marks.{mark-wait}
+use Rattle.words.proofs.Marks.{mark-number}
 use Rattle.words.proofs.Trees.{intr-event}
 use Rattle.words.proofs.Holding.{nothing, front}
 use Rattle.words.proofs.Heads.{below_i, is-either, is-both, is-treat}
@@ -88,8 +89,7 @@ module _ {P : List ℕ} {i e n : ℕ} (f : Hits P i e n) where
   wait-held : (D D₁ : List ℕ) (r : ℕ) → Put D D₁ e r (576 + i) → Holds P D D₁ r e (Act One (intr P i) ∷ [])
   unfolding apply Fine
   wait-held D D₁ r g =
-      let z : 576 + i - 576 ≡ i = omega arith in
-      let m : mark (576 + i) ≡ u_wait i = mark-wait (576 + i) (omega arith) (omega (arith, f.here, f.table.nodes.few)) ∙ ap u_wait z in
+      let m = mark-number (Wait i) (omega (arith, f.here, f.table.nodes.few)) in
       let fine : Fine P (mark (576 + i)) [] = rw m (f.here, f.event) in
       rw m at (front (576 + i) (nothing P D e) g.0 g.1 fine)
 

@@ -15,6 +15,8 @@ ghost use Rattle.words.specs.Pieces.{Table, Asks, Src, Made, top};
 ghost use Rattle.rewrite.specs.Steps.{letter_of, Works, Hits, room_i, SeqOn, StarOn, ActOn, ParOn, leaf, Stands, state};
 ghost use Rattle.rewrite.specs.Stored.{stored, lead, removed, Rests};
 
+use words::Unit;
+
 // A completion of a module, or an occurrence of an event.
 #[derive(Clone, Copy)]
 pub enum Letter {
@@ -51,7 +53,7 @@ fn go_on_seq(p: &[u8], y: usize, dst: &mut [usize], a: usize, e: usize) -> usize
     if a == e {
         words::expand(p, y, dst, e)
     } else {
-        words::put(dst, a, y)
+        words::put(dst, a, Unit::Sequence(y))
     }
 }
 
@@ -73,9 +75,9 @@ fn go_on_star(
     }
     let z = words::skip(p, src, c);
     if words::same(src, c, z, dst, a, e) {
-        words::put(dst, a, 192 + j)
+        words::put(dst, a, Unit::Star(j))
     } else {
-        words::put(dst, a, j)
+        words::put(dst, a, Unit::Sequence(j))
     }
 }
 
@@ -97,7 +99,7 @@ fn go_on_par(dst: &mut [usize], a: usize, b: usize, e: usize) -> usize
     } else if b == e {
         a
     } else {
-        words::put(dst, a, 769)
+        words::put(dst, a, Unit::Par)
     }
 }
 
@@ -134,23 +136,7 @@ fn side(p: &[u8], i: usize, letter: Letter, dst: &mut [usize], e: usize) -> usiz
     if strikes(p, i, letter) {
         hit(p, i, letter, dst, e)
     } else {
-        words::put(dst, e, 576 + i)
-    }
-}
-
-// Rewrites a unit without parts, and writes what is left in front of place e.
-fn rewrite_leaf(p: &[u8], unit: usize, dst: &mut [usize], e: usize, letter: Letter) -> usize
-    requires { Table p.now × ((576 ≤ unit) × ((unit ≡ 769 → ⊥) × (Fine p.now (mark unit) [] × ((room (leaf p.now unit) ≤ e) × (e ≤ length dst.old))))) }
-    ensures { Made p.now dst.old dst.new e result (room (leaf p.now unit)) (rewritten (letter_of letter) (leaf p.now unit)) }
-{
-    if unit < 768 {
-        side(p, unit - 576, letter, dst, e)
-    } else if unit == 768 {
-        words::put(dst, e, unit)
-    } else if ends(unit - 770, letter) {
-        e
-    } else {
-        words::put(dst, e, unit)
+        words::put(dst, e, Unit::Wait(i))
     }
 }
 
@@ -167,27 +153,38 @@ pub fn rewrite_term(
     requires { Works p.now src.now s e (length dst.old) }
     ensures { Made p.now dst.old dst.new e result (room (top p.now src.now s)) (rewritten (letter_of letter) (top p.now src.now s)) }
 {
-    let unit = src[s];
-    if unit < 192 {
-        let a = rewrite_term(p, src, s + 1, dst, e, letter);
-        go_on_seq(p, unit, dst, a, e)
-    } else if unit < 384 {
-        let a = rewrite_term(p, src, s + 1, dst, e, letter);
-        go_on_star(p, unit - 192, src, s + 1, dst, a, e)
-    } else if unit < 576 {
-        if strikes(p, unit - 384, letter) {
-            hit(p, unit - 384, letter, dst, e)
-        } else {
+    match Unit::of(src[s]) {
+        Unit::Sequence(y) => {
             let a = rewrite_term(p, src, s + 1, dst, e, letter);
-            go_on_act(p, unit - 384, dst, a, e)
+            go_on_seq(p, y, dst, a, e)
         }
-    } else if unit == 769 {
-        let z = words::skip(p, src, s + 1);
-        let b = rewrite_term(p, src, z, dst, e, letter);
-        let a = rewrite_term(p, src, s + 1, dst, b, letter);
-        go_on_par(dst, a, b, e)
-    } else {
-        rewrite_leaf(p, unit, dst, e, letter)
+        Unit::Star(j) => {
+            let a = rewrite_term(p, src, s + 1, dst, e, letter);
+            go_on_star(p, j, src, s + 1, dst, a, e)
+        }
+        Unit::Act(i) => {
+            if strikes(p, i, letter) {
+                hit(p, i, letter, dst, e)
+            } else {
+                let a = rewrite_term(p, src, s + 1, dst, e, letter);
+                go_on_act(p, i, dst, a, e)
+            }
+        }
+        Unit::Wait(i) => side(p, i, letter, dst, e),
+        Unit::One => words::put(dst, e, Unit::One),
+        Unit::Par => {
+            let z = words::skip(p, src, s + 1);
+            let b = rewrite_term(p, src, z, dst, e, letter);
+            let a = rewrite_term(p, src, s + 1, dst, b, letter);
+            go_on_par(dst, a, b, e)
+        }
+        Unit::Module(m) => {
+            if ends(m, letter) {
+                e
+            } else {
+                words::put(dst, e, Unit::Module(m))
+            }
+        }
     }
 }
 

@@ -16,12 +16,12 @@ use Rattle.paper.specs.Term.{Term, One}
 use Rattle.laws.specs.Nodes.{kind, left, count, tree, intr}
 use Rattle.laws.specs.Weight.{weight, weight_i}
 use Rattle.nodes.specs.Weights.{node_weight}
-use Rattle.words.specs.Word.{Mark, u_seq, u_star, u_act, u_wait, u_one, u_par, u_mod, mark, hd, tl, apply, terms, Fine}
+use Rattle.words.specs.Word.{Mark, u_seq, u_star, u_act, u_wait, u_one, u_par, u_mod, mark, arity, hd, tl, apply, terms, Fine}
 use Rattle.words.specs.Pieces.{Table, Asks, Drawn, Src, Past, Agree, top}
 use Rattle.words.proofs.Marks.{mark-seq, mark-star, mark-act, mark-wait, mark-one, mark-par, mark-mod, mark-one-only, says-one}
 use Rattle.words.proofs.Determined.{inj}
 use Rattle.words.proofs.Joins.{units}
-use Rattle.words.proofs.Reading.{arity, src-terms}
+use Rattle.words.proofs.Reading.{src-terms}
 use Rattle.walk.specs.Judging.{Tells, Weighted, Judged, Part, Behind}
 
 -- ---- answers
@@ -114,7 +114,7 @@ other-own ms u h = rw (lt-ltb u 770 h) tt
 
 -- a unit wants its parts
 pub fine-deep : (P : List ℕ) (m : Mark) (ts : List Term) → Fine P m ts → arity m ≤ length ts
-unfolding Fine arity
+unfolding Fine
 fine-deep P (u_seq j) ts f = f.0
 fine-deep P (u_star j) ts f = f.0
 fine-deep P (u_act j) ts f = f.0

@@ -8,9 +8,9 @@ use lib.ListN.{length, drop, get_or, set, length-drop, length-map, length-set, d
 use lib.Seq.{drop-cons, drop-drop, get_or-drop}
 use Rattle.paper.specs.Term.{Term}
 use Rattle.laws.specs.Weight.{weight}
-use Rattle.words.specs.Word.{Mark, u_seq, u_star, u_act, u_wait, u_one, u_par, u_mod, mark, hd, tl, apply, terms, Right}
+use Rattle.words.specs.Word.{Mark, u_seq, u_star, u_act, u_wait, u_one, u_par, u_mod, mark, arity, hd, tl, apply, terms, Right}
 use Rattle.words.proofs.Holding.{fronted}
-use Rattle.words.proofs.Reading.{arity, drop-one, drop-two}
+use Rattle.words.proofs.Reading.{drop-one, drop-two}
 use Rattle.walk.proofs.Units.{fine-deep}
 use Rattle.walk.specs.Judging.{Sound, Judged, Behind}
 
@@ -32,7 +32,7 @@ lights-hd (t ∷ ts) l = l.0
 
 -- a unit's term stands in front of those that it does not take
 pub apply-cons : (P : List ℕ) (m : Mark) (ts : List Term) → apply P m ts ≡ hd (apply P m ts) ∷ drop (arity m) ts
-unfolding apply arity
+unfolding apply
 apply-cons P (u_seq j) ts = rw (drop-one ts)
 apply-cons P (u_star j) ts = rw (drop-one ts)
 apply-cons P (u_act j) ts = rw (drop-one ts)

@@ -6,9 +6,8 @@ ghost use Rattle.std.specs.Prelude.{◌≡◌, List, ℕ, ◌+◌, ◌-◌, ◌�
 ghost use Rattle.paper.specs.Lists.{has};
 ghost use Rattle.laws.specs.Nodes.{tree};
 ghost use Rattle.laws.specs.Weight.{weight};
-ghost use Rattle.words.specs.Word.{mark, terms};
+ghost use Rattle.words.specs.Word.{mark, arity, terms};
 ghost use Rattle.words.specs.Pieces.{Asks, Src, top};
-ghost use Rattle.words.proofs.Reading.{arity};
 ghost use Rattle.walk.specs.Judging.{Tells, Weighted, Known, Sound, Judged, WaitJudged, JoinJudged, ActJudged, Part, Behind};
 
 fn wide(x: u8) -> usize

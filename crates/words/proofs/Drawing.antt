@@ -1,6 +1,6 @@
 -- What `expand` asks of its calls, and what it has drawn, by the kind of the node: the weight of a join has room for its unit and its parts.
 -- Assumes nothing.
-use Prim.Native.Nat.{ℕ, ◌+◌, ◌-◌, ◌≤◌, ◌<◌}
+use Prim.Native.Nat.{ℕ, ◌+◌, ◌≤◌, ◌<◌}
 use mathlib.Core.List.{List, [], ◌∷◌}
 use mathlib.Core.Logic.{⊎_elim}
 use mathlib.Core.Path.{◌≡◌, refl, ap, sym, ◌∙◌}
@@ -10,9 +10,10 @@ use lib.ListN.{get_or}
 use Rattle.paper.specs.Term.{Term, Intr, Mod, One, Seq, Par, Star, Act}
 use Rattle.laws.specs.Nodes.{kind, left, right, count, tree, intr}
 use Rattle.laws.specs.Weight.{weight, room}
-use Rattle.words.specs.Word.{u_seq, u_star, u_mod, mark, apply, Fine, Holds}
+use Rattle.words.specs.declared.Unit.TheVariants.{Star as Starred, Module}
+use Rattle.words.specs.Word.{u_seq, mark, apply, Fine, Holds}
 use Rattle.words.specs.Pieces.{Cols, Put, Faced, Asks, Drawn}
-use Rattle.words.proofs.Marks.{mark-seq, mark-star, mark-one, mark-par, mark-mod}
+use Rattle.words.proofs.Marks.{mark-seq, mark-one, mark-par, mark-number}
 use Rattle.words.proofs.Trees.{tree-seq, tree-par, tree-star, tree-act, tree-mod, tree-one}
 use Rattle.words.proofs.Holding.{nothing, front, joined, faced, one-there}
 
@@ -56,8 +57,7 @@ unfolding weight apply Fine
 draw-star {P} {D} {D₁} {D₂} {j} {e} {n} {k} {l} {q} {a} {x} {r} f c d h g =
     let kj : kind P j ≡ 4 = sym c.0 ∙ d in
     let tj : tree P j ≡ Star (tree P l) = rw c.1.0 (tree-star P f.table.nodes j kj) in
-    let z : 192 + j - 192 ≡ j = omega arith in
-    let m : mark (192 + j) ≡ u_star j = mark-star (192 + j) (omega arith) (omega (arith, f.here, f.table.nodes.few)) ∙ ap u_star z in
+    let m = mark-number (Starred j) (omega (arith, f.here, f.table.nodes.few)) in
     let fine : Fine P (mark (192 + j)) (tree P l ∷ []) = rw m (omega arith, (f.here, (kj, ap (tree P) c.1.0))) in
     rw tj record { held = rw m at (front (192 + j) h.held g.0 g.1 fine); fits = omega (arith, h.fits, g.0) }
 
@@ -91,8 +91,7 @@ unfolding weight apply Fine
 draw-mod {P} {D} {D₂} {j} {e} {n} {k} {l} {q} {a} {r} f c d g =
     let kj : kind P j ≡ 0 = sym c.0 ∙ d in
     let tj : tree P j ≡ Mod a = rw c.1.1.1 (tree-mod P f.table.nodes j kj) in
-    let z : 770 + a - 770 ≡ a = omega arith in
-    let m : mark (770 + a) ≡ u_mod a = mark-mod (770 + a) (omega arith) ∙ ap u_mod z in
+    let m = mark-number (Module a) tt in
     let small : a < 26 = rw c.1.1.1 (f.table.named j f.here kj) in
     let fine : Fine P (mark (770 + a)) [] = rw m small in
     rw tj record { held = rw m at (front (770 + a) (nothing P D e) g.0 g.1 fine); fits = omega (arith, g.0) }

@@ -14,9 +14,10 @@ use Rattle.paper.proofs.Equal.{eq_t-sound, eq_t-complete}
 use Rattle.paper.specs.Rewriting.{seq_l, par_l, act_l, star_l}
 use Rattle.laws.specs.Nodes.{Nodes, Apart, kind, left, count, tree, intr}
 use Rattle.laws.specs.Weight.{weight, room}
-use Rattle.words.specs.Word.{u_seq, u_star, mark, hd, apply, terms, Fine, Right, Holds}
+use Rattle.words.specs.declared.Unit.TheVariants.{Star as Starred}
+use Rattle.words.specs.Word.{u_seq, mark, hd, apply, terms, Fine, Right, Holds}
 use Rattle.words.specs.Pieces.{Put, Faced, Drawn, Agree, rest, Made}
-use Rattle.words.proofs.Marks.{clash, mark-seq, mark-star, mark-par}
+use Rattle.words.proofs.Marks.{clash, mark-seq, mark-par, mark-number}
 use Rattle.words.proofs.Trees.{tree-star}
 use Rattle.words.proofs.Holding.{nothing, front, joined, faced}
 use Rattle.words.proofs.Drawing.{weighs}
@@ -138,8 +139,7 @@ module _ {P D D₁ D₂ S : List ℕ} {e a r c z j : ℕ} {x : Term} {ρ : Left}
       let words : o.word ≡ k.word = sym (units o) ∙ same ∙ units k in
       let terms-same : x ∷ [] ≡ s.term ∷ [] = sym o.says ∙ ap (terms P) words ∙ k.says in
       let xs : s.term ≡ x = sym (ap hd terms-same) in
-      let y : 192 + j - 192 ≡ j = omega arith in
-      let m : mark (192 + j) ≡ u_star j = mark-star (192 + j) (omega arith) (omega (arith, ns.few)) ∙ ap u_star y in
+      let m = mark-number (Starred j) (omega (arith, ns.few)) in
       let fine : Fine P (mark (192 + j)) (s.term ∷ []) = rw m (omega arith, (hj, (kj, xs ∙ xj))) in
       let f : Holds P D D₂ r e (Star s.term ∷ []) = rw m at (front (192 + j) k g.0 g.1 fine) in
       rw (s.is, eq_t-true s.term x xs) record { held = rw xs at f; fits = omega (arith, h.fits, g.0) }

@@ -6,7 +6,6 @@ pub mod Drawing
 pub mod Determined
 pub mod Reading
 pub mod Joins
-pub mod Comparing
 pub mod Runs
 pub mod Heads
 pub mod Arms

@@ -1,13 +1,19 @@
 -- What a unit's number says, by its range, and back: the number is determined by what it says (`unmark-mark`).
--- Assumes nothing.
+-- At a `match Unit::of(n)` the arm of `Star(j)` has `c.in-Star.ensures.says : u_star j ≡ mark n`, `.number : 192 + j ≡ n` and `.node : j < 192`, and so
+-- for each unit: laws of words take `says`; a bound on n or j is `omega (arith, c.in-Star.ensures.number, c.in-Star.ensures.node)`, where it is
+-- not found alone. `ap arity (sym says)` is how many parts it has. Of what is written, `mark-number (Star j) (j < 192)` is
+-- `mark (192 + j) ≡ u_star j`. Assumes nothing.
 use Prim.Native.Nat.{ℕ, ◌+◌, ◌-◌, ◌≤◌, ◌<◌}
 use mathlib.Core.Bool.{Bool, true, false, cond}
 use mathlib.Core.List.{List}
-use mathlib.Core.Path.{◌≡◌, refl, sym}
+use mathlib.Core.Path.{◌≡◌, refl, sym, ap, ◌∙◌}
 use native.Mathlib.Omega.{arith}
 use lib.Dec.{eqb, ltb}
 use borrow.Author.Tests.{lt-ltb, le-ltb, ne_eqb, eqb-true, eqb-false, ltb-true, ltb-false}
 use Rattle.paper.specs.Term.{Term, One}
+use Rattle.words.specs.declared.Unit.{Unit as Given}
+use Rattle.words.specs.declared.Unit.TheVariants.{Sequence, Star, Act, Wait, One as Skip, Par, Module}
+use Rattle.words.specs.Unit.{unit_mark, number_of, HasNode}
 use Rattle.words.specs.Word.{Mark, u_seq, u_star, u_act, u_wait, u_one, u_par, u_mod, mark, hd, apply}
 
 -- below k, or from k on
@@ -50,6 +56,20 @@ pub mark-mod : (u : ℕ) → 770 ≤ u → mark u ≡ u_mod (u - 770)
 unfolding mark
 mark-mod u l =
     rw (le-ltb u 192 (omega arith), le-ltb u 384 (omega arith), le-ltb u 576 (omega arith), le-ltb u 768 (omega arith), ne_eqb u 768 (λ e. omega arith), ne_eqb u 769 (λ e. omega arith))
+
+-- what is written is read again
+pub mark-number : (u : Given) → HasNode u → mark (number_of u) ≡ unit_mark u
+unfolding mark
+mark-number (Sequence j) h = mark-seq j h
+mark-number (Star j) h =
+    let z : 192 + j - 192 ≡ j = omega arith in mark-star (192 + j) (omega arith) (omega arith) ∙ ap u_star z
+mark-number (Act i) h =
+    let z : 384 + i - 384 ≡ i = omega arith in mark-act (384 + i) (omega arith) (omega arith) ∙ ap u_act z
+mark-number (Wait i) h =
+    let z : 576 + i - 576 ≡ i = omega arith in mark-wait (576 + i) (omega arith) (omega arith) ∙ ap u_wait z
+mark-number Skip h = mark-one
+mark-number Par h = mark-par
+mark-number (Module m) h = let z : 770 + m - 770 ≡ m = omega arith in mark-mod (770 + m) (omega arith) ∙ ap u_mod z
 
 unfoldable pub unmark : Mark → ℕ
 unmark (u_seq j) = j

@@ -11,23 +11,23 @@ use lib.ListN.{get_or, length, take, drop, length-append, length-drop}
 use lib.Seq.{drop-cons}
 use borrow.Author.Tests.{lt-ltb, le-ltb, ne_eqb}
 use Rattle.paper.specs.Term.{Term}
-use Rattle.words.specs.Word.{Mark, u_seq, u_star, u_act, u_wait, u_one, u_par, u_mod, mark, hd, tl, apply, terms, Fine, Right, Holds}
+use Rattle.words.specs.Word.{Mark, u_seq, u_star, u_act, u_wait, u_one, u_par, u_mod, mark, arity, hd, tl, apply, terms, Fine, Right, Holds}
 use Rattle.words.specs.Pieces.{Src, top, Past}
 use Rattle.words.proofs.Determined.{tl-long}
 use Rattle.words.proofs.Marks.{mark-par}
 use Rattle.words.proofs.Holding.{nothing, front, joined}
 
-unfoldable pub arity : Mark → ℕ
-arity (u_seq j) = 1
-arity (u_star j) = 1
-arity (u_act j) = 1
-arity (u_wait j) = 0
-arity u_one = 0
-arity u_par = 2
-arity (u_mod a) = 0
+pub arity-most : (m : Mark) → arity m ≤ 2
+arity-most (u_seq j) = omega arith
+arity-most (u_star j) = omega arith
+arity-most (u_act j) = omega arith
+arity-most (u_wait j) = omega arith
+arity-most u_one = omega arith
+arity-most u_par = omega arith
+arity-most (u_mod a) = omega arith
 
 fine-take : (P : List ℕ) (m : Mark) (x : List Term) → Fine P m x → Fine P m (take (arity m) x)
-unfolding Fine arity
+unfolding Fine
 fine-take P (u_seq j) [] f = absurd (omega arith)
 fine-take P (u_seq j) (x ∷ xs) f = (omega arith, f.1)
 fine-take P (u_star j) [] f = absurd (omega arith)
@@ -42,7 +42,7 @@ fine-take P u_par (x ∷ y ∷ xs) f = omega arith
 fine-take P (u_mod a) x f = f
 
 apply-take : (P : List ℕ) (m : Mark) (x : List Term) → Fine P m x → apply P m (take (arity m) x) ≡ hd (apply P m x) ∷ []
-unfolding Fine arity apply
+unfolding Fine apply
 apply-take P (u_seq j) [] f = absurd (omega arith)
 apply-take P (u_seq j) (x ∷ xs) f = refl
 apply-take P (u_star j) [] f = absurd (omega arith)
@@ -57,7 +57,7 @@ apply-take P u_par (x ∷ y ∷ xs) f = refl
 apply-take P (u_mod a) x f = refl
 
 apply-drop : (P : List ℕ) (m : Mark) (x : List Term) → Fine P m x → tl (apply P m x) ≡ drop (arity m) x
-unfolding Fine arity apply
+unfolding Fine apply
 apply-drop P (u_seq j) [] f = absurd (omega arith)
 apply-drop P (u_seq j) (x ∷ xs) f = refl
 apply-drop P (u_star j) [] f = absurd (omega arith)
@@ -125,8 +125,8 @@ drop-two [] = refl
 drop-two (x ∷ []) = refl
 drop-two (x ∷ y ∷ xs) = refl
 
-fine-deep : (P : List ℕ) (m : Mark) (x : List Term) → Fine P m x → arity m ≤ length x
-unfolding Fine arity
+pub fine-deep : (P : List ℕ) (m : Mark) (x : List Term) → Fine P m x → arity m ≤ length x
+unfolding Fine
 fine-deep P (u_seq j) x f = f.0
 fine-deep P (u_star j) x f = f.0
 fine-deep P (u_act j) x f = f.0
@@ -136,7 +136,6 @@ fine-deep P u_par x f = f
 fine-deep P (u_mod a) x f = omega arith
 
 unary-by : (u : ℕ) (m : Mark) (b₁ b₂ : Bool) → arity (cond b₁ (u_seq u) (cond b₂ (u_star (u - 192)) (cond true (u_act (u - 384)) m))) ≡ 1
-unfolding arity
 unary-by u m true b₂ = refl
 unary-by u m false true = refl
 unary-by u m false false = refl
@@ -147,7 +146,6 @@ unary u h =
     rw (lt-ltb u 576 h) (unary-by u (cond (ltb u 768) (u_wait (u - 576)) (cond (eqb u 768) u_one (cond (eqb u 769) u_par (u_mod (u - 770))))) (ltb u 192) (ltb u 384))
 
 leaf-by : (u : ℕ) (b₁ b₂ : Bool) → arity (cond b₁ (u_wait (u - 576)) (cond b₂ u_one (u_mod (u - 770)))) ≡ 0
-unfolding arity
 leaf-by u true b₂ = refl
 leaf-by u false true = refl
 leaf-by u false false = refl
@@ -158,44 +156,39 @@ leaf u h k =
     rw (le-ltb u 192 (omega arith), le-ltb u 384 (omega arith), le-ltb u 576 h, ne_eqb u 769 k) (leaf-by u (ltb u 768) (eqb u 768))
 
 pub binary : (u : ℕ) → u ≡ 769 → arity (mark u) ≡ 2
-unfolding arity
 binary u e = rw (e, mark-par)
 
 module _ {P S : List ℕ} {s : ℕ} (src : Src P S s) where
-  pub src-next : 1 ≤ arity (mark (get_or S s 0)) → Src P S (s + 1)
+  src-next : 1 ≤ arity (mark (get_or S s 0)) → Src P S (s + 1)
   src-next h =
       record { right = src-right P S s src; deep = omega (arith, fine-deep P (mark (get_or S s 0)) (terms P (drop (s + 1) S)) (src-fine P S s src)) }
 
-  pub src-unary : get_or S s 0 < 576 → Src P S (s + 1)
-  src-unary h = src-next (omega (arith, unary (get_or S s 0) h))
+  pub src-unary : arity (mark (get_or S s 0)) ≡ 1 → Src P S (s + 1)
+  src-unary a = src-next (omega arith)
 
-  pub src-binary : get_or S s 0 ≡ 769 → Src P S (s + 1)
-  src-binary h = src-next (omega (arith, binary (get_or S s 0) h))
+  pub src-binary : arity (mark (get_or S s 0)) ≡ 2 → Src P S (s + 1)
+  src-binary a = src-next (omega arith)
 
-  pub past-unary : {r : ℕ} → get_or S s 0 < 576 → Past P S (s + 1) r → Past P S s r
-  past-unary {r} h p =
-      let a = unary (get_or S s 0) h in
+  pub past-unary : {r : ℕ} → arity (mark (get_or S s 0)) ≡ 1 → Past P S (s + 1) r → Past P S s r
+  past-unary {r} a p =
       let st = terms P (drop (s + 1) S) in
-      past-unit P S s src r (rw (a, take-one st (src-unary h).deep) p.held) (rw (a, drop-one st) p.next) p.right
+      past-unit P S s src r (rw (a, take-one st (src-unary a).deep) p.held) (rw (a, drop-one st) p.next) p.right
 
-  pub src-mid : {m : ℕ} → get_or S s 0 ≡ 769 → Past P S (s + 1) m → Src P S m
-  src-mid {m} h p =
+  pub src-mid : {m : ℕ} → arity (mark (get_or S s 0)) ≡ 2 → Past P S (s + 1) m → Src P S m
+  src-mid {m} a p =
       let st = terms P (drop (s + 1) S) in
-      let two : 2 ≤ length st = rw (binary (get_or S s 0) h) at (fine-deep P (mark (get_or S s 0)) st (src-fine P S s src)) in
+      let two : 2 ≤ length st = rw a at (fine-deep P (mark (get_or S s 0)) st (src-fine P S s src)) in
       record { right = p.right; deep = rw p.next (tl-long st two) }
 
-  pub past-binary : {m r : ℕ} → get_or S s 0 ≡ 769 → Past P S (s + 1) m → Past P S m r → Past P S s r
-  past-binary {m} {r} h p q =
-      let a = binary (get_or S s 0) h in
+  pub past-binary : {m r : ℕ} → arity (mark (get_or S s 0)) ≡ 2 → Past P S (s + 1) m → Past P S m r → Past P S s r
+  past-binary {m} {r} a p q =
       let st = terms P (drop (s + 1) S) in
       let two : 2 ≤ length st = rw a at (fine-deep P (mark (get_or S s 0)) st (src-fine P S s src)) in
       let second : Holds P S S m r (hd (tl st) ∷ []) = rw p.next at q.held in
       past-unit P S s src r (rw (a, take-two st two) (joined p.held second)) (rw (a, drop-two st) (rw p.next at q.next)) q.right
 
-  pub past-leaf : 576 ≤ get_or S s 0 → (get_or S s 0 ≡ 769 → ⊥) → Past P S s (s + 1)
-  past-leaf h k =
-      let a = leaf (get_or S s 0) h k in
-      past-unit P S s src (s + 1) (rw a (nothing P S (s + 1))) (rw a) (src-right P S s src)
+  pub past-leaf : arity (mark (get_or S s 0)) ≡ 0 → Past P S s (s + 1)
+  past-leaf a = past-unit P S s src (s + 1) (rw a (nothing P S (s + 1))) (rw a) (src-right P S s src)
 
 pub past_top : {P S : List ℕ} {s r : ℕ} → s ≤ length S → Past P S s r → r ≤ length S
 past_top {P} {S} {s} {r} h p =
@@ -203,15 +196,15 @@ past_top {P} {S} {s} {r} h p =
     omega (arith, l, length-append p.held.word (drop r S), length-drop s S, length-drop r S, p.held.long)
 
 -- a unit without parts says its term by itself
-module _ {P S : List ℕ} {s : ℕ} (src : Src P S s) (h : 576 ≤ get_or S s 0) (k : get_or S s 0 ≡ 769 → ⊥) where
+module _ {P S : List ℕ} {s : ℕ} (src : Src P S s) (a : arity (mark (get_or S s 0)) ≡ 0) where
   pub leaf-fine : Fine P (mark (get_or S s 0)) []
   leaf-fine =
       let m = mark (get_or S s 0) in
-      rw (leaf (get_or S s 0) h k) at (fine-take P m (terms P (drop (s + 1) S)) (src-fine P S s src))
+      rw a at (fine-take P m (terms P (drop (s + 1) S)) (src-fine P S s src))
 
   pub leaf-top : top P S s ≡ hd (apply P (mark (get_or S s 0)) [])
   leaf-top =
       let m = mark (get_or S s 0) in
       let st = terms P (drop (s + 1) S) in
-      let says : apply P m [] ≡ hd (apply P m st) ∷ [] = rw (leaf (get_or S s 0) h k) at (apply-take P m st (src-fine P S s src)) in
+      let says : apply P m [] ≡ hd (apply P m st) ∷ [] = rw a at (apply-take P m st (src-fine P S s src)) in
       ap hd (src-terms P S s src) ∙ sym (ap hd says)

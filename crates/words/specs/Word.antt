@@ -1,6 +1,7 @@
 -- Words of units: the walk of what runs in a term, in prefix order. What lies right of that walk is a part of the program, and its node stands for it.
 --     Mark                  what a unit says: `Seq y`, `Star s`, `Act i`, `Wait i`, `One`, `Par`, `Mod m`
 --     mark u                the unit as a number: below 192 `Seq`, 384 `Star`, 576 `Act`, 768 `Wait`; 768 `One`, 769 `Par`, from 770 on `Mod`
+--     arity k               how many of the terms after it the unit takes
 --     terms P w             the terms that a word says, read from its end: each unit takes its parts from the terms after it
 --     Right P w             each unit of the word may stand where it does
 --     Holds P B N a b ts    from place a up to b the list N holds a right word that says ts, and from b on it is the list B
@@ -28,6 +29,16 @@ mark u =
     (cond (ltb u 384) (u_star (u - 192))
     (cond (ltb u 576) (u_act (u - 384))
     (cond (ltb u 768) (u_wait (u - 576)) (cond (eqb u 768) u_one (cond (eqb u 769) u_par (u_mod (u - 770)))))))
+
+-- how many terms it takes
+abbrev pub arity : Mark → ℕ
+arity (u_seq j) = 1
+arity (u_star j) = 1
+arity (u_act j) = 1
+arity (u_wait j) = 0
+arity u_one = 0
+arity u_par = 2
+arity (u_mod a) = 0
 
 -- total, so that no word is stuck: a right word never asks for what is not there
 abbrev pub hd : List Term → Term

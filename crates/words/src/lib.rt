@@ -3,11 +3,74 @@
 // nothing is moved or undone. Nothing is refused here: callers see to the table, the places and the room.
 #![tactic(auto)]
 
-ghost use Rattle.std.specs.Prelude.{◌≡◌, ◌∷◌, ◌+◌, ◌-◌, ◌≤◌, ◌<◌, length, take, drop, get_or};
+ghost use Rattle.std.specs.Prelude.{◌≡◌, ◌∷◌, ◌+◌, ◌-◌, ◌^◌, ◌≤◌, ◌<◌, length, take, drop, get_or};
 ghost use Rattle.paper.specs.Running.{heads};
 ghost use Rattle.laws.specs.Nodes.{Nodes, count, tree, intr};
-ghost use Rattle.words.specs.Word.{Right, mark, terms, any_runs, any_armed, arms};
+ghost use Rattle.words.specs.Unit.{unit_mark, number_of, HasNode, HasEvent};
+ghost use Rattle.words.specs.Word.{Right, mark, arity, terms, any_runs, any_armed, arms};
 ghost use Rattle.words.specs.Pieces.{Cols, Put, Faced, Asks, Drawn, Src, Past, Agree};
+
+// A unit of a word: the node after `;`, the starred node before its part, the interruption of a `/` and of `1/i`, `1`, `||`, a module.
+#[derive(Clone, Copy, PartialEq, Eq, Debug)]
+pub enum Unit {
+    Sequence(usize),
+    Star(usize),
+    Act(usize),
+    Wait(usize),
+    One,
+    Par,
+    Module(usize),
+}
+
+impl Unit {
+    // What a number says: the only place that tells the numbers apart.
+    #[inline]
+    #[tactic(auto, unfolding(crate::specs::Word::mark))]
+    pub fn of(number: usize) -> Unit
+        ensures says { unit_mark result ≡ mark number }
+        ensures number { number_of result ≡ number }
+        ensures node { HasNode result }
+    {
+        match number {
+            0..=191 => Unit::Sequence(number),
+            192..=383 => Unit::Star(number - 192),
+            384..=575 => Unit::Act(number - 384),
+            576..=767 => Unit::Wait(number - 576),
+            768 => Unit::One,
+            769 => Unit::Par,
+            _ => Unit::Module(number - 770),
+        }
+    }
+
+    // The number that it is written as.
+    #[inline]
+    pub fn number(self) -> usize
+        requires { number_of self < 2 ^ 64 }
+        ensures { result ≡ number_of self }
+    {
+        match self {
+            Unit::Sequence(node) => node,
+            Unit::Star(node) => 192 + node,
+            Unit::Act(node) => 384 + node,
+            Unit::Wait(node) => 576 + node,
+            Unit::One => 768,
+            Unit::Par => 769,
+            Unit::Module(module) => 770 + module,
+        }
+    }
+
+    // How many of the terms after it the unit takes.
+    #[inline]
+    pub fn parts(self) -> usize
+        ensures { result ≡ arity (unit_mark self) }
+    {
+        match self {
+            Unit::Sequence(_) | Unit::Star(_) | Unit::Act(_) => 1,
+            Unit::Wait(_) | Unit::One | Unit::Module(_) => 0,
+            Unit::Par => 2,
+        }
+    }
+}
 
 // A node's four columns.
 #[derive(Clone, Copy)]
@@ -38,11 +101,11 @@ pub fn node(p: &[u8], j: usize) -> Columns
 }
 
 // Writes a unit in front of place e, and answers its place.
-pub fn put(dst: &mut [usize], e: usize, unit: usize) -> usize
-    requires { (1 ≤ e) × (e ≤ length dst.old) }
-    ensures { Put dst.old dst.new e result unit }
+pub fn put(dst: &mut [usize], e: usize, unit: Unit) -> usize
+    requires { (1 ≤ e) × (e ≤ length dst.old) × (number_of unit < 2 ^ 64) }
+    ensures { Put dst.old dst.new e result (number_of unit) }
 {
-    dst[e - 1] = unit;
+    dst[e - 1] = unit.number();
     e - 1
 }
 
@@ -51,10 +114,9 @@ pub fn put_act(dst: &mut [usize], e: usize, i: usize) -> usize
     requires { ((get_or dst.old e 0 ≡ 768 → ⊥) → 1 ≤ e) × ((e < length dst.old) × (i < 192)) }
     ensures { Faced dst.old dst.new e result i }
 {
-    if dst[e] == 768 {
-        put(dst, e + 1, 576 + i)
-    } else {
-        put(dst, e, 384 + i)
+    match Unit::of(dst[e]) {
+        Unit::One => put(dst, e + 1, Unit::Wait(i)),
+        _ => put(dst, e, Unit::Act(i)),
     }
 }
 
@@ -66,21 +128,21 @@ pub fn expand(p: &[u8], j: usize, dst: &mut [usize], e: usize) -> usize
     let n = node(p, j);
     if n.kind == 2 {
         let a = expand(p, n.left, dst, e);
-        put(dst, a, n.right)
+        put(dst, a, Unit::Sequence(n.right))
     } else if n.kind == 3 {
         let b = expand(p, n.right, dst, e);
         let a = expand(p, n.left, dst, b);
-        put(dst, a, 769)
+        put(dst, a, Unit::Par)
     } else if n.kind == 4 {
         let a = expand(p, n.left, dst, e);
-        put(dst, a, 192 + j)
+        put(dst, a, Unit::Star(j))
     } else if n.kind == 5 {
         let a = expand(p, n.left, dst, e);
         put_act(dst, a, n.right)
     } else if n.kind == 0 {
-        put(dst, e, 770 + n.letter)
+        put(dst, e, Unit::Module(n.letter))
     } else {
-        put(dst, e, 768)
+        put(dst, e, Unit::One)
     }
 }
 
@@ -89,34 +151,23 @@ pub fn skip(p: &[u8], src: &[usize], s: usize) -> usize
     requires { Src p.now src.now s }
     ensures { Past p.now src.now s result }
 {
-    let unit = src[s];
-    if unit < 576 {
-        skip(p, src, s + 1)
-    } else if unit == 769 {
-        let m = skip(p, src, s + 1);
-        skip(p, src, m)
-    } else {
-        s + 1
+    match Unit::of(src[s]).parts() {
+        0 => s + 1,
+        1 => skip(p, src, s + 1),
+        _ => {
+            let second = skip(p, src, s + 1);
+            skip(p, src, second)
+        }
     }
 }
 
 // Whether the units from a up to z of one word are those from b up to e of the other.
+#[tactic(auto, unfolding(crate::specs::Pieces::Agree))]
 pub fn same(x: &[usize], a: usize, z: usize, y: &[usize], b: usize, e: usize) -> bool
     requires { ((a ≤ z) × (z ≤ length x.now)) × ((b ≤ e) × (e ≤ length y.now)) }
     ensures { Agree result (take (z - a) (drop a x.now)) (take (e - b) (drop b y.now)) }
 {
-    if z - a != e - b {
-        return false;
-    }
-    let n = z - a;
-    let mut i = 0;
-    while i < n {
-        if x[a + i] != y[b + i] {
-            return false;
-        }
-        i += 1;
-    }
-    true
+    x[a..z] == y[b..e]
 }
 
 // Whether the module m runs in the word that starts at s: its unit stands there.
@@ -124,15 +175,7 @@ pub fn running(p: &[u8], src: &[usize], s: usize, m: usize) -> bool
     requires { Right p.now (drop s src.now) × ((s ≤ length src.now) × (m < 256)) }
     ensures { result ≡ any_runs m (terms p.now (drop s src.now)) }
 {
-    let unit = m + 770;
-    let mut i = s;
-    while i < src.len() {
-        if src[i] == unit {
-            return true;
-        }
-        i += 1;
-    }
-    false
+    src[s..].contains(&Unit::Module(m).number())
 }
 
 // Whether the event x stands at the head of the interruption i.
@@ -153,18 +196,14 @@ pub fn headed(p: &[u8], i: usize, x: usize) -> bool
 }
 
 // Whether a unit arms the event x: the heads of Act and Wait do.
-pub fn unit_arms(p: &[u8], unit: usize, x: usize) -> bool
-    requires { Nodes p.now × (((384 ≤ unit) → (unit < 576) → unit - 384 < count p.now) × ((576 ≤ unit) → (unit < 768) → unit - 576 < count p.now)) }
-    ensures { result ≡ arms p.now x (mark unit) }
+#[tactic(auto, unfolding(crate::specs::Word::arms))]
+pub fn unit_arms(p: &[u8], unit: Unit, x: usize) -> bool
+    requires { Nodes p.now × HasEvent p.now unit }
+    ensures { result ≡ arms p.now x (unit_mark unit) }
 {
-    if unit < 384 {
-        false
-    } else if unit < 576 {
-        headed(p, unit - 384, x)
-    } else if unit < 768 {
-        headed(p, unit - 576, x)
-    } else {
-        false
+    match unit {
+        Unit::Act(i) | Unit::Wait(i) => headed(p, i, x),
+        _ => false,
     }
 }
 
@@ -173,12 +212,5 @@ pub fn event_armed(p: &[u8], src: &[usize], s: usize, x: usize) -> bool
     requires { Nodes p.now × (Right p.now (drop s src.now) × (s ≤ length src.now)) }
     ensures { result ≡ any_armed x (terms p.now (drop s src.now)) }
 {
-    let mut i = s;
-    while i < src.len() {
-        if unit_arms(p, src[i], x) {
-            return true;
-        }
-        i += 1;
-    }
-    false
+    src[s..].iter().any(|&unit| unit_arms(p, Unit::of(unit), x))
 }

@@ -50,9 +50,6 @@ side-strikes-requires t c = (c.requires.table.nodes, c.requires.here)
 pub side-hit-requires : goal.side-hit-requires
 side-hit-requires t c = (omega arith, c.requires)
 
-pub side-overflow_add-i : goal.side-overflow_add-i
-side-overflow_add-i t c = omega (arith, c.requires.here, c.requires.table.nodes.few)
-
 pub side-put-requires : goal.side-put-requires
 side-put-requires t c = omega (arith, c.requires.space, c.requires.top)
 

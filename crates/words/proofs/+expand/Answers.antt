@@ -33,9 +33,6 @@ put_act-requires t c =
     let f = asks-act c.requires c.node-n.ensures c.if-n-eq5.true in
     (face-room _ c.expand-a-then-n-eq5.ensures.held c.expand-a-then-n-eq5.ensures.fits (room-act c.requires c.node-n.ensures c.if-n-eq5.true), (omega (arith, holds-less c.expand-a-then-n-eq5.ensures.held, c.expand-a-then-n-eq5.auto.dst, c.requires.top), omega (arith, f.1.0, c.requires.table.nodes.few)))
 
-pub overflow_add-n : goal.overflow_add-n
-overflow_add-n t c = omega (arith, c.node-n.ensures.1.1.1, c.requires.table.nodes.letters c.args.j)
-
 pub returns-then-n-eq2 : goal.returns-then-n-eq2
 returns-then-n-eq2 t c = draw-seq c.requires c.node-n.ensures c.if-n-eq2.true c.expand-a.ensures c.put.ensures
 

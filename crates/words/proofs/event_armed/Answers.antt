@@ -1,20 +1,17 @@
--- `words::event_armed` meets its contract: the argument is in `Invariants`.
-use native.Mathlib.Omega.{arith}
-use mathlib.Core.Path.{refl, sym, ◌∙◌}
-use Rattle.words.proofs.Arms.{right-on, act-small, wait-small, armed-here, armed-on, armed-end}
+-- `words::event_armed` meets its contract: the event is armed exactly when one of the word's units arms it (`Arms`).
+-- Assumes nothing.
+use Rattle.std.proofs.Common.{◌∙◌, drop, rules}
+use Rattle.std.proofs.lemmas.Iterator.{YieldsList-from_slice}
+use Rattle.std.proofs.lemmas.Iterator.Adapters.{serves_from_places}
+use Rattle.std.proofs.lemmas.Iterator.Search.{any_from_yields_List}
+use Rattle.std.proofs.lemmas.List.{take_rest}
+use Rattle.words.specs.Word.{mark, arms}
+use Rattle.words.proofs.Arms.{armed_any, event-at}
 use Rattle.words.proofs.event_armed.Goals as goal
 
-pub loop-i-init : goal.loop-i-init
-loop-i-init c = (omega arith, (c.requires.1.0, refl))
-
-pub unit_arms-requires : goal.unit_arms-requires
-unit_arms-requires c = (c.requires.0, (act-small c.args.p.now c.args.src.now c.args.x c.loop-i.i c.loop-i-test.true c.loop-i.invariant.1.0, wait-small c.args.p.now c.args.src.now c.args.x c.loop-i.i c.loop-i-test.true c.loop-i.invariant.1.0))
-
-pub returns-then-unit_arms : goal.returns-then-unit_arms
-returns-then-unit_arms c = sym (c.loop-i.invariant.1.1 ∙ armed-here c.args.p.now c.args.src.now c.args.x c.loop-i.i c.loop-i-test.true c.loop-i.invariant.1.0 c.unit_arms.ensures c.if-unit_arms.true)
-
-pub loop-i-preserved : goal.loop-i-preserved
-loop-i-preserved c = (omega arith, (right-on c.args.p.now c.args.src.now c.args.x c.loop-i.i c.loop-i-test.true c.loop-i.invariant.1.0, c.loop-i.invariant.1.1 ∙ armed-on c.args.p.now c.args.src.now c.args.x c.loop-i.i c.loop-i-test.true c.loop-i.invariant.1.0 c.unit_arms.ensures c.if-unit_arms.false))
+pub any-requires-clause-callable : goal.any-requires-clause-callable
+any-requires-clause-callable c =
+    serves_from_places (YieldsList-from_slice (drop c.args.s c.args.src.now) (c.iter.ensures.rest ∙ take_rest c.args.src.now c.args.s)) (λ x q k. search rules) (λ x k h e. let f = event-at c.args.p.now c.args.src.now c.args.s x.now k c.requires.1.0 h e in search (rules, f))
 
 pub returns : goal.returns
-returns c = sym (c.loop-i.invariant.1.1 ∙ armed-end c.args.p.now c.args.src.now c.args.x c.loop-i.i c.loop-i-test.false)
+returns c = any_from_yields_List (λ u. arms c.args.p.now c.args.x (mark u)) _ _ _ c.any.ensures.ran (YieldsList-from_slice _ c.iter.ensures.rest) (λ x b q k. search rules) ∙ armed_any c.args.p.now c.args.x c.args.src.now c.args.s c.requires.1.0
