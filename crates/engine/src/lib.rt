@@ -15,7 +15,7 @@ ghost use Rattle.react.specs.States.{state_of};
 ghost use Rattle.coding.specs.Code.{coding};
 ghost use Rattle.engine.specs.Live.{outcome, meant, Letters, Loaded, Rooted, Begins, Kinds, Turns, Stated, Runs, reacted_to, Reads, Came, CameWith};
 
-use pack::{copy_out, pack, start_word};
+use pack::{pack, start_word};
 use react::{Reacted, State, possible, react, runs_flags};
 use reader::{Program as Given, Verdict, read};
 use rewrite::{Letter, Memory};
@@ -110,8 +110,7 @@ pub fn begin(nodes: &[u8], root: usize, modules: &[u8], events: &[u8], live: &mu
         memory,
         stopped: [0; 8],
     };
-    let bytes = pack(nodes, modules, events, &w, state);
-    copy_out(bytes, live);
+    live.copy_from_slice(&pack(nodes, modules, events, &w, state));
     Answer {
         number: 0,
         place: 0,
@@ -142,8 +141,7 @@ pub fn go(
     }
     let passing = is_fugitive(fugitive, letter);
     let Reacted { state, orders } = react(nodes, modules, w, state, tmp, letter, passing);
-    let bytes = pack(nodes, modules, events, w, state);
-    copy_out(bytes, live);
+    live.copy_from_slice(&pack(nodes, modules, events, w, state));
     Answer {
         number: 0,
         place: 0,

@@ -1,24 +1,29 @@
 -- The numbers that are written: units of a word, the stopped set's number, the marks of the stored events.
 -- Assumes nothing.
-use Prim.Native.Nat.{ℕ, zero, suc, ◌+◌, ◌*◌, ◌/◌, ◌≤◌, ◌<◌}
+use Prim.Native.Nat.{ℕ, zero, suc, ◌+◌, ◌*◌, ◌≤◌, ◌<◌}
+use mathlib.Core.Bool.{cond}
 use mathlib.Core.List.{List, [], ◌∷◌, map}
 use mathlib.Core.Path.{◌≡◌, refl, ap, sym, ◌∙◌}
 use native.Mathlib.Numerals.{add-one}
 use native.Mathlib.Omega.{arith}
 use lib.Dec.{eqb}
-use lib.ListN.{length, get_or, drop, drop_of_length-le, length-drop, length-take, get_or-eq_default}
-use lib.Seq.{drop-cons, get_or-drop, get_or-take, drop-length}
+use lib.ListN.{length, get_or, drop, length-drop, length-take, get_or-eq_default}
+use lib.Seq.{drop-cons, get_or-take, drop-length}
 use lib.Pow.{pow_mono}
-use borrow.Author.Tests.{eq-eqb, ne_eqb}
+use Rattle.std.specs.List.{position, position_or_len}
+use Rattle.std.specs.Option.{unwrap_or}
+use Rattle.std.proofs.Common.{Some, None, nat_lt}
+use Rattle.std.proofs.lemmas.Bool.Decides.{nat_tests}
+use Rattle.std.proofs.lemmas.List.Recursion.{is_position_or_len}
 use Rattle.paper.specs.Lists.{has}
 use Rattle.paper.specs.Table.{flag}
 use Rattle.rewrite.specs.declared.Memory.{Memory}
 use Rattle.rewrite.specs.Stored.{stored}
 use Rattle.react.specs.States.{Modules, stopped_of, Flags}
 use Rattle.react.proofs.Flagged.{stopped-flag}
-use Rattle.coding.specs.Layout.{low, high_of, high, pair, set_number, place_in, marks_of}
+use Rattle.coding.specs.Layout.{low, high, pair, set_number, place_in, marks_of}
 use Rattle.coding.proofs.Bytes.{set-small, marks-long, marks-small}
-use Rattle.pack.specs.Packing.{Small, Known}
+use Rattle.pack.specs.Packing.{Known}
 
 -- ---- units
 
@@ -30,14 +35,6 @@ pub high-behind : (w : List ℕ) (j : ℕ) → length w ≤ 4 * j → high w j �
 high-behind w j h =
     omega (arith, get_or-eq_default w 0 {n = 4 * j} h, get_or-eq_default w 0 {n = 4 * j + 1} (omega arith), get_or-eq_default w 0 {n = 4 * j + 2} (omega arith), get_or-eq_default w 0 {n = 4 * j + 3} (omega arith))
 
--- the high bits of a unit of the word from place s on
-module _ (W : List ℕ) (s i : ℕ) where
-  pub high-in : (v : ℕ) → Small (drop s W) → v ≡ get_or W (s + i) 0 / 256 → (v ≡ high_of (drop s W) i) × (v < 4)
-  high-in v h e = (e ∙ sym (ap (λ (n : ℕ). n / 256) (get_or-drop s W i 0)), omega (arith, get_or-drop s W i 0, h i))
-
-  pub high-none : length W ≤ s + i → (0 ≡ high_of (drop s W) i) × (0 < 4)
-  high-none h = (omega (arith, get_or-drop s W i 0, get_or-eq_default W 0 {n = s + i} h), omega arith)
-
 -- ---- the stopped set
 
 flag_is : (f : ℕ) → f ≤ 1 → flag (eqb f 1) ≡ f
@@ -47,14 +44,14 @@ flag_is (suc (suc f)) h = absurd (omega arith)
 
 module _ (ms fs : List ℕ) (g : Modules ms) (h : Flags (length ms) fs) where
   -- one module more, from the last on
-  pub set_more : (i j n v : ℕ) → j ≡ i + 1 → i < length ms → n ≡ set_number (drop j ms) (stopped_of ms fs) → v ≡ get_or fs i 0 → v + 2 * n ≡ set_number (drop i ms) (stopped_of ms fs)
+  pub set_more : (i j n : ℕ) → j ≡ i + 1 → i < length ms → n ≡ set_number (drop j ms) (stopped_of ms fs) → get_or fs i 0 + 2 * n ≡ set_number (drop i ms) (stopped_of ms fs)
   unfolding set_number
-  set_more i j n v q k e d =
+  set_more i j n q k e =
       let z : drop i ms ≡ get_or ms i 0 ∷ drop j ms = drop-cons ms i 0 k ∙ ap (λ (x : ℕ). get_or ms i 0 ∷ drop x ms) (sym (q ∙ add-one i)) in
       let f : flag (has (get_or ms i 0) (stopped_of ms fs)) ≡ get_or fs i 0 =
       ap flag (sym (stopped-flag 0 i ms fs g.ascend k)) ∙ flag_is (get_or fs i 0) (h i).0
       in
-      rw (z, f, e, d)
+      rw (z, f, e)
 
   pub set-byte : (i : ℕ) → set_number (drop i ms) (stopped_of ms fs) < 256
   set-byte i =
@@ -66,18 +63,21 @@ set-none ms xs = rw (drop-length ms)
 
 -- ---- the place of an event
 
-module _ (es : List ℕ) (e : ℕ) where
-  pub place_here : (i : ℕ) → i < length es → e ≡ get_or es i 0 → place_in (drop i es) e ≡ 0
-  unfolding place_in
-  place_here i h q = rw (drop-cons es i 0 h, eq-eqb e (get_or es i 0) q)
+place-most : (es : List ℕ) (e : ℕ) → place_in es e ≤ length es
+unfolding place_in
+place-most [] e = omega arith
+place-most (x ∷ xs) e = grind (arith, place-most xs e)
 
-  pub place-on : (i : ℕ) → i < length es → (e ≡ get_or es i 0 → ⊥) → place_in (drop i es) e ≡ place_in (drop (i + 1) es) e + 1
-  unfolding place_in
-  place-on i h q = rw (add-one i, drop-cons es i 0 h, ne_eqb e (get_or es i 0) q) (omega arith)
+place-steps : (es : List ℕ) (e : ℕ) → place_in es e ≡ position_or_len (λ x. eqb e x) es
+unfolding place_in
+place-steps es e = is_position_or_len (λ xs. place_in xs e) (λ x. eqb e x) refl (λ x xs. ap (cond (eqb e x) 0) (omega arith)) es
 
-  pub place_end : (i : ℕ) → length es ≤ i → place_in (drop i es) e ≡ 0
-  unfolding place_in
-  place_end i h = rw (drop_of_length-le es {i = i} h)
+or_len : (p n : ℕ) → p ≤ n → unwrap_or (cond (nat_lt p n) (Some p) None) n ≡ p
+or_len p n h = grind (arith, nat_tests)
+
+-- where an event stands, or how many they are
+pub place_is : (es : List ℕ) (e : ℕ) → unwrap_or (position (λ x. eqb e x) es) (length es) ≡ place_in es e
+place_is es e = rw (place-steps es e) (or_len (position_or_len (λ x. eqb e x) es) (length es) (omega (arith, place-most es e, place-steps es e)))
 
 -- ---- marks
 

@@ -17,22 +17,13 @@ ghost use Rattle.pack.specs.Packing.{Wrote, Small, Known, Packs, Names};
 use react::State;
 use rewrite::Memory;
 
-fn wide(x: u8) -> usize
-    ensures { result ≡ x }
-{
-    x as usize
-}
-
 // The low eight bits of the units from place s on, a unit a byte.
 fn put_low(w: &[usize], s: usize, b: &mut [u8])
     requires { (length w.now ≡ 96) × ((s ≤ 96) × (length b.old ≡ 128)) }
     ensures { Wrote (low (drop s w.now)) 0 (96 - s) b.old b.new }
 {
-    let n = 96 - s;
-    let mut i = 0;
-    while i < n {
-        b[i] = (w[s + i] % 256) as u8;
-        i += 1;
+    for (i, &unit) in w[s..].iter().enumerate() {
+        b[i] = (unit % 256) as u8;
     }
 }
 
@@ -41,8 +32,7 @@ fn high_bits(w: &[usize], s: usize, i: usize) -> usize
     requires { Small (drop s w.now) × ((s ≤ 96) × (i < 96)) }
     ensures { (result ≡ high_of (drop s w.now) i) × (result < 4) }
 {
-    let at = s + i;
-    if at < w.len() { w[at] / 256 } else { 0 }
+    w.get(s + i).copied().unwrap_or(0) / 256
 }
 
 // The high bits of four units, the first of them in the byte's high bits.
@@ -63,11 +53,8 @@ fn put_high(w: &[usize], s: usize, b: &mut [u8])
     requires { (length w.now ≡ 96) × (Small (drop s w.now) × ((s ≤ 96) × (length b.old ≡ 128))) }
     ensures { Wrote (high (drop s w.now)) 96 ((99 - s) / 4) b.old b.new }
 {
-    let n = (99 - s) / 4;
-    let mut j = 0;
-    while j < n {
+    for j in 0..(99 - s) / 4 {
         b[96 + j] = high_byte(w, s, j);
-        j += 1;
     }
 }
 
@@ -76,27 +63,21 @@ fn set_number(modules: &[u8], stopped: [u8; 8]) -> u8
     requires { Modules modules.now × Flags (length modules.now) stopped }
     ensures { result ≡ set_number modules.now (stopped_of modules.now stopped) }
 {
-    let mut number: usize = 0;
-    let mut i = modules.len();
-    while 0 < i {
-        i -= 1;
-        number = wide(stopped[i]) + 2 * number;
+    let mut number = 0;
+    for i in (0..modules.len()).rev() {
+        number = stopped[i] + 2 * number;
     }
-    number as u8
+    number
 }
 
 // Where an event stands among the program's events; how many they are where it does not.
 fn place_of(events: &[u8], e: usize) -> usize
     ensures { result ≡ place_in events.now e }
 {
-    let mut i = 0;
-    while i < events.len() {
-        if e == wide(events[i]) {
-            return i;
-        }
-        i += 1;
-    }
-    i
+    events
+        .iter()
+        .position(|&name| e == usize::from(name))
+        .unwrap_or(events.len())
 }
 
 // The mark of the stored event at a place: where it stands among the program's events, plus one. Zero behind the last.
@@ -104,10 +85,8 @@ fn mark_at(events: &[u8], memory: Memory, i: usize) -> usize
     requires { Known events.now memory }
     ensures { (result ≡ get_or (marks_of events.now (stored memory)) i 0) × (result < 16) }
 {
-    let n = memory.count;
-    if i < n {
-        let e = memory.events[i];
-        place_of(events, e) + 1
+    if i < memory.count {
+        place_of(events, memory.events[i]) + 1
     } else {
         0
     }
@@ -118,13 +97,10 @@ fn put_marks(events: &[u8], memory: Memory, b: &mut [u8])
     requires { Known events.now memory × (length b.old ≡ 128) }
     ensures { Wrote (pair (marks_of events.now (stored memory))) 122 ((memory.count + 1) / 2) b.old b.new }
 {
-    let n = (memory.count + 1) / 2;
-    let mut j = 0;
-    while j < n {
+    for j in 0..memory.count.div_ceil(2) {
         let first = mark_at(events, memory, 2 * j);
         let second = mark_at(events, memory, 2 * j + 1);
         b[122 + j] = (first * 16 + second) as u8;
-        j += 1;
     }
 }
 
@@ -148,18 +124,5 @@ pub fn start_word(p: &[u8], root: usize, w: &mut [usize]) -> usize
     requires { Asks p.now root 96 (length w.old) × (length w.old ≡ 96) }
     ensures { Stands p.now w.new result × (state p.now w.new result ≡ still (tree p.now root)) }
 {
-    let start = words::expand(p, root, w, 96);
-    start
-}
-
-// Copies the bytes of a state out.
-pub fn copy_out(from: [u8; 128], live: &mut [u8])
-    requires { length live.old ≡ 128 }
-    ensures { live.new ≡ from }
-{
-    let mut k = 128;
-    while 0 < k {
-        k -= 1;
-        live[k] = from[k];
-    }
+    words::expand(p, root, w, 96)
 }

@@ -18,13 +18,10 @@ returns-then-not-possible c = λ q d k h.
 pub react-requires : goal.react-requires
 react-requires c = ready c.requires.runs.program c.args.nodes.now c.args.modules.now c.args.events.now c.requires.runs.loaded c.args.w.now c.args.state (letter_of c.args.letter) c.requires.runs.stated c.args.tmp.now c.requires.runs.stands c.requires.live_len.1 (search rules) c.requires.runs.few
 
-pub pack-bytes-requires : goal.pack-bytes-requires
-pack-bytes-requires c = packs c.requires.runs.program c.args.nodes.now c.args.modules.now c.args.events.now c.requires.runs.loaded c.args.w.now c.args.state (letter_of c.args.letter) c.requires.runs.stated c.args.fugitive.now c.requires.runs.kinds c.is_fugitive-passing.result c.is_fugitive-passing.ensures c.react.new.w c.react.result (c.react.ensures c.requires.runs.program (fits c.requires.runs.program c.args.nodes.now c.args.modules.now c.args.events.now c.requires.runs.loaded c.args.w.now c.args.state (letter_of c.args.letter) c.requires.runs.stated c.args.fugitive.now c.requires.runs.kinds c.is_fugitive-passing.result c.is_fugitive-passing.ensures))
-
-pub copy_out-requires : goal.copy_out-requires
-copy_out-requires c = c.requires.live_len.0
+pub pack-requires : goal.pack-requires
+pack-requires c = packs c.requires.runs.program c.args.nodes.now c.args.modules.now c.args.events.now c.requires.runs.loaded c.args.w.now c.args.state (letter_of c.args.letter) c.requires.runs.stated c.args.fugitive.now c.requires.runs.kinds c.is_fugitive-passing.result c.is_fugitive-passing.ensures c.react.new.w c.react.result (c.react.ensures c.requires.runs.program (fits c.requires.runs.program c.args.nodes.now c.args.modules.now c.args.events.now c.requires.runs.loaded c.args.w.now c.args.state (letter_of c.args.letter) c.requires.runs.stated c.args.fugitive.now c.requires.runs.kinds c.is_fugitive-passing.result c.is_fugitive-passing.ensures))
 
 pub returns : goal.returns
 returns c = λ q d k h.
     let z : c.possible.result ≡ true = c.if-not-possible.false in
-    goes q c.args.nodes.now c.args.modules.now c.args.events.now d c.args.w.now c.args.state (letter_of c.args.letter) h c.args.fugitive.now k c.is_fugitive-passing.result c.is_fugitive-passing.ensures c.react.new.w c.react.result (c.react.ensures q (fits q c.args.nodes.now c.args.modules.now c.args.events.now d c.args.w.now c.args.state (letter_of c.args.letter) h c.args.fugitive.now k c.is_fugitive-passing.result c.is_fugitive-passing.ensures)) c.pack-bytes.result c.args.live.now c.copy_out.new.live (c.pack-bytes.ensures q (record { nodes_are = d.nodes_are; modules_are = d.its.modules_are; events_are = d.its.events_are })) c.copy_out.ensures (sym (c.possible.ensures (state_of c.args.nodes.now c.args.w.now c.args.modules.now c.args.state) refl) ∙ z)
+    goes q c.args.nodes.now c.args.modules.now c.args.events.now d c.args.w.now c.args.state (letter_of c.args.letter) h c.args.fugitive.now k c.is_fugitive-passing.result c.is_fugitive-passing.ensures c.react.new.w c.react.result (c.react.ensures q (fits q c.args.nodes.now c.args.modules.now c.args.events.now d c.args.w.now c.args.state (letter_of c.args.letter) h c.args.fugitive.now k c.is_fugitive-passing.result c.is_fugitive-passing.ensures)) c.pack.result c.args.live.now c.copy_from_slice.new.self (c.pack.ensures q (record { nodes_are = d.nodes_are; modules_are = d.its.modules_are; events_are = d.its.events_are })) c.copy_from_slice.ensures.after (sym (c.possible.ensures (state_of c.args.nodes.now c.args.w.now c.args.modules.now c.args.state) refl) ∙ z)

@@ -1,17 +1,17 @@
--- What is left to show of it; Invariants.antt tells the argument.
-use native.Mathlib.Omega.{arith}
-use mathlib.Core.Path.{◌∙◌}
-use Rattle.pack.proofs.Numbers.{place_here, place-on, place_end}
+-- `pack::place_of` meets its contract: the first place of the event, or how many they are, is its place (`place_is`). Assumes nothing.
+use mathlib.Core.Path.{◌≡◌}
+use lib.Dec.{eqb}
+use borrow.Author.Rules.{rules}
+use borrow.Author.Tests.{tests}
+use Rattle.std.specs.List.{position}
+use Rattle.std.proofs.lemmas.Iterator.{YieldsList-from_slice}
+use Rattle.std.proofs.lemmas.Iterator.Search.{position_from_yields_List}
+use Rattle.pack.proofs.Numbers.{place_is}
 use Rattle.pack.proofs.place_of.Goals as goal
 
-pub loop-i-init : goal.loop-i-init
-loop-i-init c = (omega arith, omega arith)
-
-pub returns-then-e-wide : goal.returns-then-e-wide
-returns-then-e-wide c = omega (arith, place_here c.args.events.now c.args.e c.loop-i.i c.loop-i-test.true (c.if-e-wide.true ∙ c.wide.ensures), c.loop-i.invariant)
-
-pub loop-i-preserved : goal.loop-i-preserved
-loop-i-preserved c = (omega arith, omega (arith, place-on c.args.events.now c.args.e c.loop-i.i c.loop-i-test.true (λ q. c.if-e-wide.false (omega (arith, c.wide.ensures))), c.loop-i.invariant))
-
 pub returns : goal.returns
-returns c = omega (arith, place_end c.args.events.now c.args.e c.loop-i.i c.loop-i-test.false, c.loop-i.invariant)
+returns c =
+    let p : c.position.result ≡ position (λ x. eqb c.args.e x) c.args.events.now =
+    position_from_yields_List (λ x. eqb c.args.e x) _ _ c.position.result c.position.ensures.ran (YieldsList-from_slice c.args.events.now cc) (λ x b q k. search (rules, tests))
+    in
+    cc (place_is c.args.events.now c.args.e)

@@ -10,5 +10,5 @@ use Rattle.pack.proofs.start_word.Goals as goal
 pub returns : goal.returns
 unfolding weight_l
 returns c =
-    let d = c.expand-start.ensures in
-    stands_of {D = c.args.w.now} {ρ = still (tree c.args.p.now c.args.root)} c.requires.1 (record { held = d.held; fits = d.fits }) refl (c.expand-start.auto.dst ∙ c.requires.1) c.requires.0.space
+    let d = c.expand.ensures in
+    stands_of {D = c.args.w.now} {ρ = still (tree c.args.p.now c.args.root)} c.requires.1 (record { held = d.held; fits = d.fits }) refl (c.expand.auto.dst ∙ c.requires.1) c.requires.0.space
