@@ -12,8 +12,11 @@ use lib.Seq.{drop-cons, get_or-set_same, get_or-set_other}
 use borrow.Author.Tests.{eqb-true, eqb-false}
 use Rattle.paper.specs.Term.{Term}
 use Rattle.paper.specs.Running.{runs, runs_l}
-use Rattle.words.specs.Word.{mark, terms, Fine, Right, any_runs}
-use Rattle.words.proofs.Marks.{mark-mod}
+use Rattle.words.specs.declared.Unit.{Unit as Given}
+use Rattle.words.specs.declared.Unit.TheVariants.{Sequence, Star, Act, Wait, One, Par, Module}
+use Rattle.words.specs.Unit.{unit_mark}
+use Rattle.words.specs.Word.{u_mod, mark, terms, Fine, Right, any_runs}
+use Rattle.words.proofs.Marks.{clash, mark-mod}
 use Rattle.words.proofs.Runs.{runs_here, runs_on, runs-end}
 use Rattle.rewrite.specs.Steps.{left_of, state, Stands}
 use Rattle.react.specs.States.{Running}
@@ -33,6 +36,15 @@ seen_none P U r = record {
   so_far = λ m k. ap (λ (b : Bool). b || any_runs m (terms P U)) (get_or-replicate 26 m false false k);
 }
 
+its_module : (k : Given) (m : ℕ) → unit_mark k ≡ u_mod m → k ≡ Module m
+its_module (Sequence j) m e = clash cc
+its_module (Star j) m e = clash cc
+its_module (Act i) m e = clash cc
+its_module (Wait i) m e = clash cc
+its_module One m e = clash cc
+its_module Par m e = clash cc
+its_module (Module a) m e = cc
+
 module _ {P U : List ℕ} {flags : List Bool} {i : ℕ} (n : Seen P U flags i) (h : i < length U) where
   abbrev unit : ℕ
   unit = get_or U i 0
@@ -44,41 +56,42 @@ module _ {P U : List ℕ} {flags : List Bool} {i : ℕ} (n : Seen P U flags i) (
       rw e at n.right
 
   -- a module's unit is that of one of a to z
-  pub seen-letter : 770 ≤ unit → unit - 770 < 26
+  pub seen-letter : {m : ℕ} → u_mod m ≡ mark unit → m < 26
   unfolding Fine
-  seen-letter k = rw (mark-mod unit k) at parts.1
+  seen-letter e = rw (← e) at parts.1
 
   -- the module m of another unit: nothing changes
-  passed : (m : ℕ) → m < 26 → (unit ≡ m + 770 → ⊥) → (get_or flags m false || any_runs m (terms P (drop (i + 1) U))) ≡ any_runs m (terms P U)
+  passed : (m : ℕ) → m < 26 → (u_mod m ≡ mark unit → ⊥) → (get_or flags m false || any_runs m (terms P (drop (i + 1) U))) ≡ any_runs m (terms P U)
   passed m k d =
-      ap (λ (b : Bool). get_or flags m false || b) (sym (runs_on P U m i h n.right d).1) ∙ n.so_far m k
+      let e : unit ≡ m + 770 → ⊥ = λ q. let z : unit - 770 ≡ m = omega arith in d (sym (mark-mod unit (omega arith) ∙ ap u_mod z)) in
+      ap (λ (b : Bool). get_or flags m false || b) (sym (runs_on P U m i h n.right e).1) ∙ n.so_far m k
 
-  pub seen_other : (770 ≤ unit → ⊥) → Seen P U flags (i + 1)
-  seen_other d = record {
+  pub seen_other : (k : Given) → unit_mark k ≡ mark unit → ((m : ℕ) → k ≡ Module m → ⊥) → Seen P U flags (i + 1)
+  seen_other k e d = record {
     within = omega arith;
     right = parts.0;
     wide = n.wide;
-    so_far = λ m k. passed m k (λ e. d (omega arith));
+    so_far = λ m l. passed m l (λ q. d m (its_module k m (e ∙ sym q)));
   }
 
-  set-by : (m : ℕ) → m < 26 → 770 ≤ unit → (b : Bool) → eqb m (unit - 770) ≡ b → (get_or (set flags (unit - 770) true) m false || any_runs m (terms P (drop (i + 1) U))) ≡ any_runs m (terms P U)
-  set-by m k l true e =
-      let z : unit - 770 ≡ m = sym (eqb-true m (unit - 770) e) in
-      let t : get_or (set flags (unit - 770) true) m false ≡ true = rw z (get_or-set_same flags m true false (omega (arith, n.wide))) in
-      let r : any_runs m (terms P (drop i U)) ≡ true = runs_here P U m i h (omega arith) in
-      ap (λ (b : Bool). b || any_runs m (terms P (drop (i + 1) U))) t
-      ∙ (sym (ap (λ (b : Bool). get_or flags m false || b) r ∙ or-true (get_or flags m false)) ∙ n.so_far m k)
-  set-by m k l false e =
-      let z : m ≡ unit - 770 → ⊥ = eqb-false m (unit - 770) e in
-      ap (λ (b : Bool). b || any_runs m (terms P (drop (i + 1) U))) (get_or-set_other flags (unit - 770) m true false z)
-      ∙ passed m k (λ q. z (omega arith))
+  set-by : {m : ℕ} → u_mod m ≡ mark unit → 770 + m ≡ unit → (x : ℕ) → x < 26 → (b : Bool) → eqb x m ≡ b → (get_or (set flags m true) x false || any_runs x (terms P (drop (i + 1) U))) ≡ any_runs x (terms P U)
+  set-by {m} e q x k true t =
+      let z : m ≡ x = sym (eqb-true x m t) in
+      let f : get_or (set flags m true) x false ≡ true = rw z (get_or-set_same flags x true false (omega (arith, n.wide))) in
+      let r : any_runs x (terms P (drop i U)) ≡ true = runs_here P U x i h (omega arith) in
+      ap (λ (b : Bool). b || any_runs x (terms P (drop (i + 1) U))) f
+      ∙ (sym (ap (λ (b : Bool). get_or flags x false || b) r ∙ or-true (get_or flags x false)) ∙ n.so_far x k)
+  set-by {m} e q x k false t =
+      let z : x ≡ m → ⊥ = eqb-false x m t in
+      ap (λ (b : Bool). b || any_runs x (terms P (drop (i + 1) U))) (get_or-set_other flags m x true false z)
+      ∙ passed x k (λ f. let g : u_mod x ≡ u_mod m = f ∙ sym e in z (cc))
 
-  pub seen_more : 770 ≤ unit → Seen P U (set flags (unit - 770) true) (i + 1)
-  seen_more l = record {
+  pub seen_more : {m : ℕ} → u_mod m ≡ mark unit → 770 + m ≡ unit → Seen P U (set flags m true) (i + 1)
+  seen_more {m} e q = record {
     within = omega arith;
     right = parts.0;
-    wide = length-set flags (unit - 770) true ∙ n.wide;
-    so_far = λ m k. set-by m k l (eqb m (unit - 770)) refl;
+    wide = length-set flags m true ∙ n.wide;
+    so_far = λ x k. set-by e q x k (eqb x m) refl;
   }
 
 -- a state has one term at most, so what runs in one of its terms runs in what is left

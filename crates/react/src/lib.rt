@@ -11,6 +11,7 @@ ghost use Rattle.rewrite.specs.Steps.{letter_of, state, Stands};
 ghost use Rattle.react.specs.States.{Modules, state_of, flags_of, Running, Told, Ready, Fits, Comes};
 
 use rewrite::{Letter, Memory};
+use words::Unit;
 
 // A state beside its word: where the word starts, the memory, and a flag for each module.
 #[derive(Clone, Copy)]
@@ -41,8 +42,8 @@ pub fn running_letters(p: &[u8], w: &[usize], s: usize) -> [bool; 26]
 {
     let mut flags = [false; 26];
     for &unit in &w[s..] {
-        if 770 <= unit {
-            flags[unit - 770] = true;
+        if let Unit::Module(m) = Unit::of(unit) {
+            flags[m] = true;
         }
     }
     flags
