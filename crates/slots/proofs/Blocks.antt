@@ -1,79 +1,23 @@
--- Blocks of a list of bytes: when one is b, what a copy makes of them. For callers: at first none is held (`holds-none`), each that is held has 128 bytes
--- (`holds-long`).
+-- Blocks of a list of bytes: what a copy makes of them. For callers: at first none is held (`holds-none`).
 -- Assumes nothing.
 use Prim.Native.Nat.{ℕ, zero, suc, ◌+◌, ◌*◌, ◌≤◌, ◌<◌}
-use mathlib.Core.Path.{◌≡◌, refl, sym, ap, subst, ◌∙◌}
-use mathlib.Core.Bool.{Bool, true, false}
+use mathlib.Core.Path.{◌≡◌, refl, sym, ap, ◌∙◌}
 use mathlib.Core.List.{List, [], ◌∷◌, ◌++◌, append_assoc}
 use native.Mathlib.Nat.{suc-add, zero-add}
 use native.Mathlib.Omega.{arith}
-use lib.Dec.{T, eqb, eqb-suc-zero}
-use lib.ListN.{length, get_or, take, drop, length-drop}
-use lib.Seq.{get_or-take, get_or-drop, take-take, take-nil, take_all, take_at, drop_at, length-take-le, ext_get_or, paste}
-use borrow.Author.Count.{below_more}
-use Rattle.paper.specs.Lists.{eq_l}
-use Rattle.paper.proofs.Equal.{eq_l-sound, eq_l-refl}
+use lib.ListN.{length, get_or, take, drop}
+use lib.Seq.{drop-drop, take-take, take-nil, take_all, take_at, drop_at, length-take-le, paste}
+use Rattle.std.specs.Simd.{first_chunks}
 use Rattle.slots.specs.Slots.{block, last_below, Holds}
 
--- ---- the test of equality
+-- ---- the blocks of a list, n of them
 
-pub test-true : (b c : List ℕ) → c ≡ b → true ≡ eq_l b c
-test-true b c e = known (eq_l b c) (subst (λ (x : List ℕ). T (eq_l b x)) (sym e) (eq_l-refl b)) where
-  known : (t : Bool) → T t → true ≡ t
-  known true h = refl
-  known false h = absurd h
-
-pub test-false : (b c : List ℕ) → (c ≡ b → ⊥) → false ≡ eq_l b c
-test-false b c d = known (eq_l b c) (λ h. d (sym (eq_l-sound b c h))) where
-  known : (t : Bool) → (T t → ⊥) → false ≡ t
-  known true h = absurd (h tt)
-  known false h = refl
-
--- ---- how many bytes differ
-
--- of the first i bytes d differ
-pub record Differ (W : List ℕ) (at : ℕ) (b : List ℕ) (d i : ℕ) : Type 0 where
-  pub few : d ≤ i
-  pub none : d ≡ 0 → (k : ℕ) → k < i → get_or W (at + k) 0 ≡ get_or b k 0
-  pub some : 0 < d → (k : ℕ) × (k < i) × (get_or W (at + k) 0 ≡ get_or b k 0 → ⊥)
-
-module _ (W : List ℕ) (at : ℕ) (b : List ℕ) where
-  pub differ-none : Differ W at b 0 0
-  differ-none = record { few = omega arith; none = λ e k h. absurd (omega arith); some = λ h. absurd (omega arith) }
-
-  pub differ_same : (d i : ℕ) → Differ W at b d i → get_or W (at + i) 0 ≡ get_or b i 0 → Differ W at b d (i + 1)
-  differ_same d i r e = record {
-    few = omega (arith, r.few);
-    none = λ z. below_more _ _ (r.none z) e;
-    some = λ h. ((r.some h).0, omega (arith, (r.some h).1), (r.some h).2);
-  }
-
-  pub differ-more : (d i : ℕ) → Differ W at b d i → (get_or W (at + i) 0 ≡ get_or b i 0 → ⊥) → Differ W at b (d + 1) (i + 1)
-  differ-more d i r e = record { few = omega (arith, r.few); none = λ z. absurd (omega arith); some = λ h. (i, omega arith, e) }
-
--- ---- the bytes of a part
-
-module _ (W : List ℕ) (at : ℕ) (fits : at + 128 ≤ length W) where
-  pub part-long : length (take 128 (drop at W)) ≡ 128
-  part-long = length-take-le 128 (drop at W) (omega (arith, length-drop at W))
-
-  part_at : (k : ℕ) → k < 128 → get_or (take 128 (drop at W)) k 0 ≡ get_or W (at + k) 0
-  part_at k h = get_or-take 128 (drop at W) k 0 h ∙ get_or-drop at W k 0
-
-  module _ (b : List ℕ) (long : length b ≡ 128) where
-    same-all : ((k : ℕ) → k < 128 → get_or W (at + k) 0 ≡ get_or b k 0) → true ≡ eq_l b (take 128 (drop at W))
-    same-all f =
-        test-true b (take 128 (drop at W))
-        (ext_get_or 0 (take 128 (drop at W)) b (part-long ∙ sym long) (λ k h. part_at k (omega (arith, part-long)) ∙ f k (omega (arith, part-long))))
-
-    same_not : (k : ℕ) → k < 128 → (get_or W (at + k) 0 ≡ get_or b k 0 → ⊥) → false ≡ eq_l b (take 128 (drop at W))
-    same_not k h d = test-false b (take 128 (drop at W)) (λ e. d (sym (part_at k h) ∙ ap (λ (l : List ℕ). get_or l k 0) e))
-
-    pub differ-whole : (d i : ℕ) → Differ W at b d i → i ≡ 128 → eqb d 0 ≡ eq_l b (take 128 (drop at W))
-    differ-whole zero i r e = same-all (λ k h. r.none refl k (omega arith))
-    differ-whole (suc d) i r e =
-        let s = r.some (omega arith) in
-        eqb-suc-zero d ∙ same_not s.0 (omega (arith, s.1)) s.2
+pub chunk-is : (n : ℕ) (W : List ℕ) (i : ℕ) → i < n → get_or (first_chunks 128 n W) i [] ≡ block W i
+chunk-is zero W i h = absurd (omega arith)
+chunk-is (suc n) W zero h = refl
+chunk-is (suc n) W (suc i) h =
+    let e : 128 + 128 * i ≡ 128 * suc i = omega arith in
+    chunk-is n (drop 128 W) i (omega arith) ∙ ap (take 128) (drop-drop (128 * i) 128 W ∙ ap (λ (k : ℕ). drop k W) e)
 
 -- ---- a copy behind the first n blocks
 
@@ -124,6 +68,3 @@ holds-none W X z = record {
   once = λ i h. absurd (omega arith);
   few = omega arith;
 }
-
-pub holds-long : {W X : List ℕ} {cs : List (List ℕ)} → 65536 ≤ length W → Holds W X cs → (i : ℕ) → i < length cs → length (get_or cs i []) ≡ 128
-holds-long {W} l s i h = ap length (sym (s.blocks i h)) ∙ part-long W (128 * i) (omega (arith, s.few))

@@ -10,7 +10,7 @@ use lib.ListN.{length, get_or, set, length-set, length-append, get_or-append}
 use lib.Seq.{paste, get_or-append_seam, get_or-set_same, get_or-set_other}
 use Rattle.paper.proofs.Choices.{by-test}
 use Rattle.slots.specs.declared.Enrolled.{Enrolled}
-use Rattle.slots.specs.Slots.{hash_of, bucket_of, block, last_below, Holds, number_in, enrolled, Enrolls}
+use Rattle.slots.specs.Slots.{hash_of, bucket_of, block, last_below, Holds, number_in, enrolled, Enrolls, Full}
 use Rattle.slots.proofs.Numbers.{number-within, number_append, number-new}
 use Rattle.slots.proofs.Buckets.{bucket-low, last-append, last-new, last-other}
 use Rattle.slots.proofs.Blocks.{paste-before, paste-there}
@@ -56,9 +56,15 @@ module _ (cs : List (List ℕ)) (b : List ℕ) where
 -- ---- the three ways
 
 module _ {W X : List ℕ} {cs : List (List ℕ)} (s : Holds W X cs) (b : List ℕ) where
-  -- nothing was written
-  pub enrolls-kept : (r : Enrolled) → enrolled cs b ≡ cs → r.number ≡ number_in b cs → r.count ≡ length cs → Enrolls cs b W X r
-  enrolls-kept r e n k = record { number_is = n; count_is = k ∙ ap length (sym e); holds = rw e s }
+  -- b is known, and nothing was written
+  pub enrolls-known : (r : Enrolled) → r.number ≡ number_in b cs → r.number < r.count → length cs ≡ r.count → Enrolls cs b W X r
+  enrolls-known r n l k =
+      let e : enrolled cs b ≡ cs = enrolled-known cs b (omega arith) in
+      record { number_is = n; placed = omega (arith, s.few); count_is = sym k ∙ ap length (sym e); holds = rw e s }
+
+  -- no room
+  pub full_here : length cs ≡ 512 → number_in b cs ≡ length cs → Full cs b W X
+  full_here e n = record { number_is = n ∙ e; holds = rw (enrolled-full cs b e) s }
 
   module _ (room : 65536 ≤ length W) (places : 1536 ≤ length X) (long : length b ≡ 128) (space : length cs < 512) where
     abbrev n : ℕ
@@ -161,9 +167,10 @@ module _ {W X : List ℕ} {cs : List (List ℕ)} (s : Holds W X cs) (b : List �
       few = omega (arith, snoc-long);
     }
 
-    -- b was put behind the others, as the code has it: m blocks so far, h the hash, j the number
-    pub enrolls-put : (W' : List ℕ) (m h j : ℕ) → length cs ≡ m → h ≡ hash_of b → W' ≡ paste W (128 * m) b 128 → j ≡ number_in b cs → m ≤ j
-        → Enrolls cs b W' (set (set (set X m h) (512 + m) (get_or X (1024 + h / 8388608) 0)) (1024 + h / 8388608) (m + 1)) (record { number = j; count = m + 1 })
-    enrolls-put W' m h j e f g q l =
+    -- b was put behind the others, as the code has it: m blocks so far, h the hash, j its bucket
+    pub enrolls-put : (W' : List ℕ) (m h j : ℕ) → length cs ≡ m → h ≡ hash_of b → j ≡ h / 8388608 → W' ≡ paste W (128 * m) b 128 → m ≡ number_in b cs
+        → Enrolls cs b W' (set (set (set X m h) (512 + m) (get_or (set X m h) (1024 + j) 0)) (1024 + j) (m + 1)) (record { number = m; count = m + 1 })
+    enrolls-put W' m h j e f g p q =
         let z : enrolled cs b ≡ cs ++ b ∷ [] = enrolled-new cs b (λ u. omega arith) (λ u. omega arith) in
-        record { number_is = q; count_is = omega (arith, ap length z, snoc-long); holds = rw (z, g, f, ← e) (holds-put (omega arith)) }
+        let l : get_or (set X m h) (1024 + j) 0 ≡ get_or X (1024 + j) 0 = get_or-set_other X m (1024 + j) h 0 (λ u. omega arith) in
+        record { number_is = q; placed = omega arith; count_is = omega (arith, ap length z, snoc-long); holds = rw (l, z, p, g, f, ← e) (holds-put (omega arith)) }

@@ -11,6 +11,7 @@
 --     number_in b cs         where b stands first in cs; how many they are where it does not
 --     enrolled cs b         cs, and b behind them where it is new and there are not yet 512
 --     Enrolls cs b W X r    what is left after b was looked up in cs: its number, and the blocks that W and X hold now
+--     Full cs b W X         b is none of cs, which are 512 and stay as they are
 -- Not here: what a block means (`coding`, `Code`). Assumes nothing.
 use Rattle.std.specs.Prelude.{ℕ, zero, suc, ◌+◌, ◌*◌, ◌/◌, ◌%◌, ◌≤◌, ◌<◌, ◌≡◌, ◌||◌, List, [], ◌∷◌, ◌++◌, ltb, eqb, length, get_or, take, drop}
 use Rattle.paper.specs.Lists.{choose, eq_l}
@@ -59,5 +60,10 @@ enrolled cs b = choose (ltb (number_in b cs) (length cs) || eqb (length cs) 512)
 
 pub record Enrolls (cs : List (List ℕ)) (b W X : List ℕ) (r : Enrolled) : Type 0 where
   pub number_is : r.number ≡ number_in b cs
+  pub placed : r.number < 512
   pub count_is : r.count ≡ length (enrolled cs b)
+  pub holds : Holds W X (enrolled cs b)
+
+pub record Full (cs : List (List ℕ)) (b W X : List ℕ) : Type 0 where
+  pub number_is : number_in b cs ≡ 512
   pub holds : Holds W X (enrolled cs b)

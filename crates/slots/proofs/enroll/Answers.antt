@@ -1,28 +1,24 @@
--- `slots::enroll` meets its contract: its three ways are the cases of `enrolled`. They are shown of the copy, which is b. Assumes nothing.
+-- `slots::enroll` meets its contract: its three ways are the cases of `enrolled`.
+-- Assumes nothing.
 use Prim.Native.Nat.{◌<◌}
 use mathlib.Core.Path.{◌≡◌, sym, ◌∙◌}
 use native.Mathlib.Omega.{arith}
-use lib.ListN.{length, length-set}
-use Rattle.slots.proofs.Enrolling.{enrolled-known, enrolled-full, enrolls-kept, enrolls-put}
-use borrow.Author.Rules.{rules}
+use lib.ListN.{length}
+use Rattle.std.proofs.lemmas.Slice.{put_mid-paste}
+use Rattle.std.proofs.Common.{rules}
+use Rattle.slots.proofs.Enrolling.{enrolls-known, full_here, enrolls-put}
 use Rattle.slots.proofs.enroll.Goals as goal
 
-pub returns-then-number-count : goal.returns-then-number-count
-returns-then-number-count c = λ cs s e. let q = c.find-number.ensures cs s e in let b = c.copy-bytes.result in rw c.copy-bytes.ensures at (enrolls-kept s b _ (enrolled-known cs b (omega (arith, c.if-number-count))) q (sym e))
+pub returns-in-Some : goal.returns-in-Some
+returns-in-Some c = λ cs s e. enrolls-known s c.args.b.now _ (c.in-Some.ensures.number cs s e) c.in-Some.ensures.known e
 
 pub returns-then-count-eq512 : goal.returns-then-count-eq512
-returns-then-count-eq512 c = λ cs s e. let b = c.copy-bytes.result in rw c.copy-bytes.ensures at (enrolls-kept s b _ (enrolled-full cs b (e ∙ c.if-count-eq512.true)) (c.find-number.ensures cs s e) (sym e))
-
-pub bounds-index-count-2 : goal.bounds-index-count-2
-bounds-index-count-2 c = simp length-set (omega (arith, c.requires, c.if-count-eq512))
-
-pub bounds-index-k-2 : goal.bounds-index-k-2
-bounds-index-k-2 c = simp length-set (omega (arith, c.requires, c.if-count-eq512, c.hash-h.ensures.1))
+returns-then-count-eq512 c = λ cs s e. full_here s c.args.b.now (e ∙ c.if-count-eq512.true) (sym (c.in_default.ensures.number cs s e) ∙ sym e)
 
 pub returns : goal.returns
 returns c = λ cs s e.
-    let b = c.copy-bytes.result in
-    let l : length b ≡ 128 = search rules in
+    let b = c.args.b.now in
+    let long : length b ≡ 128 = search rules in
     let few : length cs < 512 = omega (arith, c.requires, c.if-count-eq512) in
-    rw c.copy-bytes.ensures at
-    (enrolls-put s b c.requires.0 c.requires.1.0 l few _ c.args.count c.hash-h.result c.find-number.result e c.hash-h.ensures.0 c.put.ensures (c.find-number.ensures cs s e) c.if-number-count.false)
+    enrolls-put s b c.requires.0 c.requires.1.0 long few _ c.args.count c.hash-h.result c.bucket-k.result e c.hash-h.ensures c.bucket-k.ensures.0
+    (put_mid-paste _ _ _ _ b 128 c.copy_from_slice.ensures.after (omega arith) (sym long)) (c.in_default.ensures.number cs s e)
