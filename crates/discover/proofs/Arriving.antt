@@ -26,7 +26,7 @@ use Rattle.coding.proofs.Coded.{code_one}
 use Rattle.layout.proofs.Ranged.{number-has, number-listed, number-front}
 use Rattle.emit.specs.Entries.{orders_from, entry_number}
 use Rattle.slots.specs.declared.Enrolled.{Enrolled}
-use Rattle.slots.specs.Slots.{Holds, number_in, enrolled, Enrolls}
+use Rattle.slots.specs.Slots.{Holds, number_in, enrolled, Enrolls, Full}
 use Rattle.slots.proofs.Enrolling.{enrolled-known, enrolled-new}
 use Rattle.slots.proofs.Numbers.{number-within}
 use Rattle.discover.specs.Finding.{entered, met, Numbered, Seen, Arrives}
@@ -174,29 +174,32 @@ module _ (q : Program) (f : Fit q) (x : State) (l : Letter) (ss : List State) wh
             ∙ sym (entered-next e (met q x (l ∷ []) ss ++ more))));
       }
 
-  module _ (W₀ X₀ : List ℕ) (s : Seen q W₀ X₀ ss) (v : Written q n) (e : possible l x ≡ true) (W X : List ℕ) (r : Enrolled) (t : Enrolls (map (code q) ss) (code q n) W X r) where
-    its-number : r.number ≡ number_of n ss
-    its-number = t.number_is ∙ number-code q f n ss v s.written
-
+  module _ (W₀ X₀ : List ℕ) (s : Seen q W₀ X₀ ss) (v : Written q n) (e : possible l x ≡ true) (W X : List ℕ) where
     few : length ss ≤ 512
     few = omega (arith, s.held.few, length-map ss (code q))
 
-    pub arrives-over : 512 ≤ r.number → (c b : ℕ) → Arrives q x l ss W X (record { over = true; count = c; entry = b })
-    arrives-over h c b = record {
+    pub arrives-over : Full (map (code q) ss) (code q n) W X → (c b : ℕ) → Arrives q x l ss W X (record { over = true; count = c; entry = b })
+    arrives-over t c b = record {
       over = λ o. by-has (has_s n ss) refl;
       seen = λ o. clash (cc);
       count_is = λ o. clash (cc);
       entry_is = λ o. clash (cc);
     }
       where
+        its-number : number_of n ss ≡ 512
+        its-number = sym (number-code q f n ss v s.written) ∙ t.number_is
+
         by-has : (d : Bool) → has_s n ss ≡ d → 512 < length (met q x (l ∷ []) ss)
         by-has true k = absurd (omega (arith, number-has n ss (true-holds (has_s n ss) k), its-number, few))
         by-has false k =
             omega (arith, ap length (met-new e k), length-append ss (n ∷ []), its-number, number-most n ss)
 
-    pub arrives-on : r.number < 512 → (os : List ℕ) → os ≡ eight (reaction q l x).does → (b : ℕ) → b ≡ orders_from (512 + r.number) os → Arrives q x l ss W X (record { over = false; count = r.count; entry = b })
-    arrives-on h os d b z = by-has (has_s n ss) refl
+    pub arrives-on : (r : Enrolled) → r.number < 512 → Enrolls (map (code q) ss) (code q n) W X r → (os : List ℕ) → os ≡ eight (reaction q l x).does → (b : ℕ) → b ≡ orders_from (512 + r.number) os → Arrives q x l ss W X (record { over = false; count = r.count; entry = b })
+    arrives-on r h t os d b z = by-has (has_s n ss) refl
       where
+        its-number : r.number ≡ number_of n ss
+        its-number = t.number_is ∙ number-code q f n ss v s.written
+
         entry-from : (m : ℕ) → r.number ≡ m → b ≡ orders_from (512 + m) (eight (reaction q l x).does)
         entry-from m k = z ∙ (ap (λ (i : ℕ). orders_from (512 + i) os) k ∙ ap (orders_from (512 + m)) d)
 

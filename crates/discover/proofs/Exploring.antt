@@ -1,5 +1,6 @@
 -- Discovery state by state, as the code counts it: after k turns the first k states seen had theirs, and their entries stand in the list. What holds at
 -- first, after one turn more, where there is one state too many, and where no state waits any more. Assumes nothing.
+use Rattle.std.specs.Prelude.{Option, Some, None, MatchOption}
 use Prim.Native.Nat.{ℕ, zero, suc, ◌+◌, ◌*◌, ◌-◌, ◌≤◌, ◌<◌}
 use mathlib.Core.Path.{◌≡◌, refl, sym, ap, subst, ◌∙◌}
 use mathlib.Core.Bool.{Bool, true, false, cond, ◌||◌}
@@ -33,7 +34,7 @@ use Rattle.layout.proofs.Lists.{gather_append}
 use Rattle.engine.specs.declared.Answer.{Answer as Begun}
 use Rattle.engine.specs.Live.{Letters, outcome}
 use Rattle.slots.specs.declared.Enrolled.{Enrolled}
-use Rattle.slots.specs.Slots.{Holds, number_in, enrolled, Enrolls}
+use Rattle.slots.specs.Slots.{Holds, number_in, enrolled, Enrolls, Full}
 use Rattle.discover.specs.declared.Turned.{Turned}
 use Rattle.discover.specs.Finding.{entered, turned, rows, Seen, Visited, Exploring, Explored}
 use Rattle.discover.proofs.Turning.{turn_on, discover-ended}
@@ -265,9 +266,11 @@ module _ (q : Program) where
 -- ---- the start
 
 -- the start stands alone where its code was enrolled first
-pub seen_start : (q : Program) → Fit q → {W X b : List ℕ} {r : Enrolled} → Enrolls [] b W X r → b ≡ code q (start_of q) → Seen q W X (start_of q ∷ [])
+pub seen_start : (q : Program) → Fit q → {W X b : List ℕ} (r : Option Enrolled) → MatchOption r (Full [] b W X) (Enrolls [] b W X) → b ≡ code q (start_of q)
+    → Seen q W X (start_of q ∷ [])
 unfolding enrolled number_in
-seen_start q f {W} {X} t e = record {
+seen_start q f None t e = absurd (omega (arith, t.number_is))
+seen_start q f {W} {X} (Some r) t e = record {
   held = subst (λ (c : List ℕ). Holds W X (c ∷ [])) e t.holds;
   written = λ s h.
       ⊎_elim

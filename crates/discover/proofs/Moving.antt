@@ -1,5 +1,5 @@
 -- One letter by the engine's `go`, on a copy of the state's word: what it asks, and what its answer says. Assumes nothing.
-use Prim.Native.Nat.{ℕ, ◌+◌, ◌≤◌, ◌<◌}
+use Prim.Native.Nat.{ℕ, ◌+◌, ◌<◌}
 use mathlib.Core.Path.{◌≡◌, refl, sym, ap, subst, ◌∙◌}
 use mathlib.Core.Bool.{Bool, true, false, cond}
 use mathlib.Core.List.{List, map}
@@ -16,7 +16,7 @@ use Rattle.emit.specs.Entries.{orders_from}
 use Rattle.engine.specs.declared.Answer.{Answer}
 use Rattle.engine.specs.Live.{outcome, Loaded, Kinds, Stated, Runs, reacted_to}
 use Rattle.slots.specs.declared.Enrolled.{Enrolled}
-use Rattle.slots.specs.Slots.{Holds, Enrolls}
+use Rattle.slots.specs.Slots.{Holds, Enrolls, Full}
 use Rattle.discover.specs.Finding.{Seen, Arrives}
 use Rattle.discover.proofs.Arriving.{arrives-none, arrives-over, arrives-on}
 
@@ -58,18 +58,18 @@ module _ (q : Program) (P ms es : List ℕ) (fs : List Bool) (W N : List ℕ) (y
     pub goes_none : (r.number ≡ 0 → ⊥) → (n : ℕ) → length ss ≡ n → Arrives q x l ss K X (record { over = false; count = n; entry = 0 })
     goes_none z n e = arrives-none q d.fit x l ss K X seen (reacted-none q l x live live' r (gone-on g) z) n e
 
-    module _ (z : r.number ≡ 0) (K' X' : List ℕ) (a : Enrolled) (t : (cs : List (List ℕ)) → Holds K X cs → length cs ≡ length ss → Enrolls cs live' K' X' a) where
+    module _ (z : r.number ≡ 0) (K' X' : List ℕ) where
       its : (possible l x ≡ true) × ((r.orders ≡ eight (reaction q l x).does) × (live' ≡ code q (reaction q l x).state))
       its = reacted-on q l x live live' r (gone-on g) z
 
-      enrolls : Enrolls (map (code q) ss) (code q (reaction q l x).state) K' X' a
-      enrolls =
-          subst (λ (b : List ℕ). Enrolls (map (code q) ss) b K' X' a) its.1.1
-          (t (map (code q) ss) seen.held (length-map ss (code q)))
+      -- what is said of the live bytes among all blocks that are held is said of the code among those of the states seen
+      said : (F : List (List ℕ) → List ℕ → Type 0) → ((cs : List (List ℕ)) → Holds K X cs → length cs ≡ length ss → F cs live') → F (map (code q) ss) (code q (reaction q l x).state)
+      said F t = subst (F (map (code q) ss)) its.1.1 (t (map (code q) ss) seen.held (length-map ss (code q)))
 
-      pub goes_over : 512 ≤ a.number → (n b : ℕ) → Arrives q x l ss K' X' (record { over = true; count = n; entry = b })
-      goes_over = arrives-over q d.fit x l ss K X seen (step_in q d.fit x l h.written h.among) its.0 K' X' a enrolls
+      pub goes_over : ((cs : List (List ℕ)) → Holds K X cs → length cs ≡ length ss → Full cs live' K' X') → (n b : ℕ) → Arrives q x l ss K' X' (record { over = true; count = n; entry = b })
+      goes_over t = arrives-over q d.fit x l ss K X seen (step_in q d.fit x l h.written h.among) its.0 K' X' (said (λ cs b. Full cs b K' X') t)
 
-      pub goes_on : a.number < 512 → (b : ℕ) → b ≡ orders_from (512 + a.number) r.orders → Arrives q x l ss K' X' (record { over = false; count = a.count; entry = b })
-      goes_on y b e =
-          arrives-on q d.fit x l ss K X seen (step_in q d.fit x l h.written h.among) its.0 K' X' a enrolls y r.orders its.1.0 b e
+      pub goes_on : (a : Enrolled) → a.number < 512 → ((cs : List (List ℕ)) → Holds K X cs → length cs ≡ length ss → Enrolls cs live' K' X' a) → (b : ℕ) → b ≡ orders_from (512 + a.number) r.orders
+          → Arrives q x l ss K' X' (record { over = false; count = a.count; entry = b })
+      goes_on a y t b e =
+          arrives-on q d.fit x l ss K X seen (step_in q d.fit x l h.written h.among) its.0 K' X' a y (said (λ cs b. Enrolls cs b K' X' a) t) r.orders its.1.0 b e

@@ -127,19 +127,17 @@ fn arrive(
         };
     }
     let orders = a.orders;
-    let e = enroll(work, index, count, &bytes);
-    let number = e.number;
-    if 512 <= number {
+    let Some(enrolled) = enroll(work, index, count, &bytes) else {
         return Arrived {
             over: true,
-            count: count,
+            count,
             entry: 0,
         };
-    }
+    };
     Arrived {
         over: false,
-        count: e.count,
-        entry: entry_of(number, orders),
+        count: enrolled.count,
+        entry: entry_of(enrolled.number, orders),
     }
 }
 

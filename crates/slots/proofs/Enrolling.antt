@@ -60,7 +60,7 @@ module _ {W X : List ℕ} {cs : List (List ℕ)} (s : Holds W X cs) (b : List �
   pub enrolls-known : (r : Enrolled) → r.number ≡ number_in b cs → r.number < r.count → length cs ≡ r.count → Enrolls cs b W X r
   enrolls-known r n l k =
       let e : enrolled cs b ≡ cs = enrolled-known cs b (omega arith) in
-      record { number_is = n; placed = omega (arith, s.few); count_is = sym k ∙ ap length (sym e); holds = rw e s }
+      record { number_is = n; count_is = sym k ∙ ap length (sym e); holds = rw e s }
 
   -- no room
   pub full_here : length cs ≡ 512 → number_in b cs ≡ length cs → Full cs b W X
@@ -173,4 +173,4 @@ module _ {W X : List ℕ} {cs : List (List ℕ)} (s : Holds W X cs) (b : List �
     enrolls-put W' m h j e f g p q =
         let z : enrolled cs b ≡ cs ++ b ∷ [] = enrolled-new cs b (λ u. omega arith) (λ u. omega arith) in
         let l : get_or (set X m h) (1024 + j) 0 ≡ get_or X (1024 + j) 0 = get_or-set_other X m (1024 + j) h 0 (λ u. omega arith) in
-        record { number_is = q; placed = omega arith; count_is = omega (arith, ap length z, snoc-long); holds = rw (l, z, p, g, f, ← e) (holds-put (omega arith)) }
+        record { number_is = q; count_is = omega (arith, ap length z, snoc-long); holds = rw (l, z, p, g, f, ← e) (holds-put (omega arith)) }

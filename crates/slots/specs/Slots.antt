@@ -60,7 +60,6 @@ enrolled cs b = choose (ltb (number_in b cs) (length cs) || eqb (length cs) 512)
 
 pub record Enrolls (cs : List (List ℕ)) (b W X : List ℕ) (r : Enrolled) : Type 0 where
   pub number_is : r.number ≡ number_in b cs
-  pub placed : r.number < 512
   pub count_is : r.count ≡ length (enrolled cs b)
   pub holds : Holds W X (enrolled cs b)
 

@@ -76,7 +76,8 @@ fn find(work: &[u8], index: &[usize], count: usize, h: u32, b: &[u8; 128]) -> Op
 // (must-fail/): a state taken for another that has its hash, a block that runs over the one before, a new state that its bucket does not lead to.
 pub fn enroll(work: &mut [u8], index: &mut [usize], count: usize, b: &[u8; 128]) -> Option<Enrolled>
     requires { (65536 ≤ length work.old) × ((1536 ≤ length index.old) × (count ≤ 512)) }
-    ensures { (cs : List (List ℕ)) → Holds work.old index.old cs → length cs ≡ count → MatchOption result (Full cs b.now work.new index.new) (Enrolls cs b.now work.new index.new) }
+    ensures placed { IfSome result (λ e. e.number < 512) }
+    ensures found { (cs : List (List ℕ)) → Holds work.old index.old cs → length cs ≡ count → MatchOption result (Full cs b.now work.new index.new) (Enrolls cs b.now work.new index.new) }
 {
     let h = hash(b);
     if let Some(number) = find(work, index, count, h, b) {

@@ -22,8 +22,8 @@ explore-t-requires c =
     record {
       explores = record {
         stocked = record { program = b.program; loaded = b.loaded; kinds = b.kinds; weighted = b.weighted; counted = c.count_parts.ensures };
-        seen = seen_start b.program b.loaded.fit
-            (c.enroll.ensures [] (holds-none _ _ (λ k h. get_or-replicate 1536 (1024 + k) 0 0 (omega arith))) refl)
+        seen = seen_start b.program b.loaded.fit c.enroll.result
+            (c.enroll.ensures.found [] (holds-none _ _ (λ k h. get_or-replicate 1536 (1024 + k) 0 0 (omega arith))) refl)
             (begins-code b.program c.begin-a.result (c.begin-a.ensures b.program b.loaded b.rooted));
       };
       room = record {
@@ -41,4 +41,4 @@ pub returns : goal.returns
 returns c = λ q d t k.
     let b = c.begin-a in
     let z = b.ensures q d t in
-    record { explored = c.explore-t.ensures q d k (seen_start q d.fit (c.enroll.ensures [] (holds-none _ _ (λ k h. get_or-replicate 1536 (1024 + k) 0 0 (omega arith))) refl) (begins-code q b.result z)); running_are = begins-running q b.result z c.args.modules.now d.its.modules_are }
+    record { explored = c.explore-t.ensures q d k (seen_start q d.fit c.enroll.result (c.enroll.ensures.found [] (holds-none _ _ (λ k h. get_or-replicate 1536 (1024 + k) 0 0 (omega arith))) refl) (begins-code q b.result z)); running_are = begins-running q b.result z c.args.modules.now d.its.modules_are }

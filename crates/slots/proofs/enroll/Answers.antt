@@ -9,14 +9,14 @@ use Rattle.std.proofs.Common.{rules}
 use Rattle.slots.proofs.Enrolling.{enrolls-known, full_here, enrolls-put}
 use Rattle.slots.proofs.enroll.Goals as goal
 
-pub returns-in-Some : goal.returns-in-Some
-returns-in-Some c = λ cs s e. enrolls-known s c.args.b.now _ (c.in-Some.ensures.number cs s e) c.in-Some.ensures.known e
+pub returns-in-Some-clause-found : goal.returns-in-Some-clause-found
+returns-in-Some-clause-found c = λ cs s e. enrolls-known s c.args.b.now _ (c.in-Some.ensures.number cs s e) c.in-Some.ensures.known e
 
-pub returns-then-count-eq512 : goal.returns-then-count-eq512
-returns-then-count-eq512 c = λ cs s e. full_here s c.args.b.now (e ∙ c.if-count-eq512.true) (sym (c.in_default.ensures.number cs s e) ∙ sym e)
+pub returns-then-count-eq512-clause-found : goal.returns-then-count-eq512-clause-found
+returns-then-count-eq512-clause-found c = λ cs s e. full_here s c.args.b.now (e ∙ c.if-count-eq512.true) (sym (c.in_default.ensures.number cs s e) ∙ sym e)
 
-pub returns : goal.returns
-returns c = λ cs s e.
+pub returns-clause-found : goal.returns-clause-found
+returns-clause-found c = λ cs s e.
     let b = c.args.b.now in
     let long : length b ≡ 128 = search rules in
     let few : length cs < 512 = omega (arith, c.requires, c.if-count-eq512) in
