@@ -1,0 +1,2 @@
+-- Laws of what is printed for a file.
+mod Files

@@ -1,0 +1,2 @@
+-- What the two programs print.
+pub mod Texts
