@@ -3,64 +3,42 @@
 // the program's nodes in postorder. A frame that is cut short ends the run.
 #![tactic(auto)]
 
-ghost use Rattle.std.specs.Prelude.{◌≤◌, ◌<◌, length};
+ghost use Rattle.std.specs.Prelude.{◌<◌};
 
+use arrayvec::ArrayVec;
 use letters::Names;
 use reader::{Program, Verdict};
 use std::io;
 use std::io::{Read, Write};
 
-fn two_bytes(high: u8, low: u8) -> usize
-    ensures { result < 65536 }
-{
-    high as usize * 256 + low as usize
-}
-
-// One byte more of a line, as long as there is room.
-fn put(line: &mut [u8; 512], at: usize, b: u8) -> usize {
-    if at < 512 {
-        line[at] = b;
-        return at + 1;
-    }
-    at
-}
+type Line = ArrayVec<u8, 512>;
 
 // A space and the names, from the letter `base` on; `-` where there is none.
-fn put_names(line: &mut [u8; 512], at: usize, names: Names, base: u8) -> usize
+fn put_names(line: &mut Line, names: Names, base: u8) -> io::Result<()>
     requires { base < 128 }
 {
-    let mut end = put(line, at, b' ');
-    let count = names.count;
-    let letters = names.letters;
-    if count == 0 {
-        return put(line, end, b'-');
+    line.write_all(b" ")?;
+    if names.count == 0 {
+        return line.write_all(b"-");
     }
-    let mut k: usize = 0;
-    while k < 8 {
-        if k < count {
-            end = put(line, end, base + letters[k] % 26);
-        }
-        k += 1;
+    for letter in names.letters.iter().take(names.count) {
+        line.write_all(&[base + *letter % 26])?;
     }
-    end
+    Ok(())
 }
 
 // The same of the letters whose flag is set.
-fn put_flags(line: &mut [u8; 512], at: usize, flags: [bool; 26]) -> usize {
-    let start = put(line, at, b' ');
-    let mut end = start;
-    let mut l: u8 = 0;
-    while l < 26 {
-        if flags[l as usize] {
-            end = put(line, end, b'A' + l);
+fn put_flags(line: &mut Line, flags: [bool; 26]) -> io::Result<()> {
+    line.write_all(b" ")?;
+    if !flags.contains(&true) {
+        return line.write_all(b"-");
+    }
+    for (letter, flag) in (b'A'..=b'Z').zip(flags.iter()) {
+        if *flag {
+            line.write_all(&[letter])?;
         }
-        l += 1;
     }
-    if end == start {
-        put(line, end, b'-')
-    } else {
-        end
-    }
+    Ok(())
 }
 
 // A node's own letter or mark.
@@ -80,106 +58,64 @@ fn mark(kind: u8, letter: u8) -> u8 {
 }
 
 // Node i in postorder, at most `depth` nodes deep.
-fn put_node(line: &mut [u8; 512], at: usize, nodes: &[u8; 768], i: u8, depth: usize) -> usize {
+fn put_node(line: &mut Line, nodes: &[u8; 768], i: u8, depth: usize) -> io::Result<()> {
     if depth == 0 {
-        return at;
+        return Ok(());
     }
-    let place = i as usize % 192;
+    let place = usize::from(i) % 192;
     let kind = nodes[place];
-    let mut end = at;
     if kind == 7 {
-        end = put(line, end, b'A' + nodes[place + 576] % 26);
+        line.write_all(&[b'A' + nodes[place + 576] % 26])?;
     }
-    if kind == 2 || kind == 3 || kind == 4 || kind == 5 || kind == 8 || kind == 9 {
-        end = put_node(line, end, nodes, nodes[place + 192], depth - 1);
+    if matches!(kind, 2..=5 | 8 | 9) {
+        put_node(line, nodes, nodes[place + 192], depth - 1)?;
     }
-    if kind == 2 || kind == 3 || kind == 5 || kind == 7 || kind == 8 || kind == 9 {
-        end = put_node(line, end, nodes, nodes[place + 384], depth - 1);
+    if matches!(kind, 2 | 3 | 5 | 7..=9) {
+        put_node(line, nodes, nodes[place + 384], depth - 1)?;
     }
-    put(line, end, mark(kind, nodes[place + 576]))
+    line.write_all(&[mark(kind, nodes[place + 576])])
 }
 
-fn print_part<W: Write>(output: &mut W, line: &[u8], end: usize) -> io::Result<()> {
-    if end <= line.len() {
-        output.write_all(&line[..end])?;
-    }
-    Ok(())
-}
-
-fn print_line<W: Write>(output: &mut W, line: &[u8; 512], end: usize) -> io::Result<()> {
-    print_part(output, line, end)
-}
-
-fn print_refusal<W: Write>(output: &mut W, number: usize, place: usize) -> io::Result<()> {
-    writeln!(output, "refused {number} at {place}")
-}
-
-fn print_program<W: Write>(output: &mut W, p: Program, nodes: &[u8; 768]) -> io::Result<()> {
-    let modules = p.modules;
-    let events = p.events;
-    let fugitive = p.fugitive;
-    let root = p.root;
-    let mut line = [0u8; 512];
-    let mut end = put_names(&mut line, 0, modules, b'a');
-    end = put_names(&mut line, end, events, b'A');
-    end = put_flags(&mut line, end, fugitive);
-    end = put(&mut line, end, b' ');
-    end = put_node(&mut line, end, nodes, (root % 256) as u8, 192);
-    end = put(&mut line, end, 10);
-    output.write_all(b"read")?;
-    print_line(output, &line, end)
+fn put_program(line: &mut Line, program: Program, nodes: &[u8; 768]) -> io::Result<()> {
+    line.write_all(b"read")?;
+    put_names(line, program.modules, b'a')?;
+    put_names(line, program.events, b'A')?;
+    put_flags(line, program.fugitive)?;
+    line.write_all(b" ")?;
+    put_node(line, nodes, (program.root % 256) as u8, 192)?;
+    line.write_all(b"\n")
 }
 
 fn print_reading<W: Write>(output: &mut W, file: &[u8], basic: bool) -> io::Result<()> {
+    let mut line = Line::new();
     let mut nodes = [0u8; 768];
     let mut weights = [0u8; 192];
-    let p = reader::read(file, basic, &mut nodes, &mut weights);
-    let verdict = p.verdict;
-    match verdict {
-        Verdict::Refused { number, place } => print_refusal(output, number, place),
-        Verdict::Accepted => print_program(output, p, &nodes),
+    let program = reader::read(file, basic, &mut nodes, &mut weights);
+    match program.verdict {
+        Verdict::Refused { number, place } => writeln!(line, "refused {number} at {place}")?,
+        Verdict::Accepted => put_program(&mut line, program, &nodes)?,
     }
-}
-
-// Reads the file of a frame and prints its two lines, or false where it is cut short.
-fn answer<R: Read, W: Write>(
-    input: &mut R,
-    output: &mut W,
-    size: usize,
-    space: &mut [u8],
-) -> io::Result<bool>
-    requires { size ≤ length space.old }
-{
-    if !streams::fill(input, &mut space[..size])? {
-        return Ok(false);
-    }
-    print_reading(output, &space[..size], true)?;
-    print_reading(output, &space[..size], false)?;
-    Ok(true)
+    output.write_all(line.as_slice())
 }
 
 // One frame; false at the end of the input.
-fn frame<R: Read, W: Write>(
+fn read_frame<R: Read, W: Write>(
     input: &mut R,
     output: &mut W,
     space: &mut [u8; 65536],
 ) -> io::Result<bool> {
-    let mut head = [0u8; 2];
-    if !streams::fill(input, &mut head)? {
+    let Some(file) = streams::block(input, space)? else {
         return Ok(false);
-    }
-    answer(input, output, two_bytes(head[0], head[1]), space)
+    };
+    print_reading(output, file, true)?;
+    print_reading(output, file, false)?;
+    Ok(true)
 }
 
-// A million frames at most.
 fn main(rt: HostRuntime) -> io::Result<()> {
-    let mut input = rt.stdin();
     let mut output = rt.stdout();
     let mut space = [0u8; 65536];
-    for _ in 0..1000000 {
-        if !frame(&mut input, &mut output, &mut space)? {
-            break;
-        }
-    }
-    Ok(())
+    streams::frames(&mut rt.stdin(), |input| {
+        read_frame(input, &mut output, &mut space)
+    })
 }
