@@ -1,7 +1,7 @@
 // A program as the engine holds it: its nodes, each with the numbers of its parts, which stand below it; and what else is read of a file.
 #![tactic(auto)]
 
-ghost use Rattle.std.specs.Prelude.{◌≡◌, ◌≤◌, ◌<◌};
+ghost use Rattle.std.specs.Prelude.{◌≡◌, ◌≤◌, ◌<◌, ◌↔◌, IsTrue};
 ghost use Rattle.laws.specs.Nodes.{kind, left, right, letter, count};
 ghost use Rattle.program.specs.Rows.{alone, row_of, appended, kind_in, left_in, right_in, letter_in};
 
@@ -24,6 +24,16 @@ pub enum Node {
 }
 
 impl Node {
+    // Whether it is a term's, and no interruption's.
+    pub fn is_term(self) -> bool
+        ensures { IsTrue result ↔ (kind_in self ≤ 5) }
+    {
+        !matches!(
+            self,
+            Node::Event(_) | Node::Treat(..) | Node::Either(..) | Node::Both(..)
+        )
+    }
+
     // The letter of a name or a treatment, 0 for what has none.
     pub fn letter(self) -> u8
         ensures { result ≡ letter_in self }

@@ -1,17 +1,19 @@
 -- What hitting an interruption asks of its calls, and what it leaves, by the kind of its node; and `/`, struck or not.
 -- A side of `||` that is not struck is `1/I`, which a rewriting leaves as it is. Assumes nothing.
-use Prim.Native.Nat.{ℕ, ◌+◌, ◌≤◌}
+use Prim.Native.Nat.{ℕ, ◌+◌, ◌≤◌, ◌<◌}
 use mathlib.Core.Bool.{Bool, true, false}
 use mathlib.Core.List.{List, [], ◌∷◌}
 use mathlib.Core.Path.{◌≡◌, sym, ◌∙◌}
 use native.Mathlib.Omega.{arith}
 use Rattle.paper.specs.Term.{Term, Intr, Left, One, Act, Treat, Either, Both, still}
 use Rattle.paper.specs.Rewriting.{Letter, strikes, par_l, act_l, hit, rewritten}
-use Rattle.laws.specs.Nodes.{tree, intr}
+use Rattle.laws.specs.Nodes.{left, right, letter, tree, intr}
+use Rattle.program.specs.declared.Node.{Node}
+use Rattle.program.specs.declared.Node.TheVariants as node
 use Rattle.laws.specs.Weight.{weight, weight_i, room}
 use Rattle.words.specs.declared.Unit.TheVariants.{Wait}
 use Rattle.words.specs.Word.{mark, apply, Fine, Holds}
-use Rattle.words.specs.Pieces.{Cols, Put, Asks, Drawn, Made}
+use Rattle.words.specs.Pieces.{node_of, Cols, Put, Asks, Drawn, Made}
 use Rattle.words.proofs.Marks.{mark-number}
 use Rattle.words.proofs.Trees.{intr-event}
 use Rattle.words.proofs.Holding.{nothing, front}
@@ -22,63 +24,68 @@ use Rattle.rewrite.specs.Steps.{room_i, Hits}
 pub drawn-made : {P D D₁ : List ℕ} {e r : ℕ} (t : Term) → Drawn P D D₁ e r t → Made P D D₁ e r (room t) (still t)
 drawn-made t d = record { held = d.held; fits = d.fits }
 
-module _ {P : List ℕ} {i k l q a e n : ℕ} (f : Hits P i e n) (c : Cols P i k l q a) where
+module _ {P : List ℕ} {i e n : ℕ} (f : Hits P i e n) where
   -- `E:T`
-  pub asks-treat : k ≡ 7 → Asks P q e n
+  pub asks-treat : {a t : ℕ} → Cols P i (node.Treat a t) → Asks P t e n
   unfolding weight_i
-  asks-treat d =
-      let b = below_i f.table.nodes c (λ z. omega arith) in
-      let s : room_i (Treat a (tree P q)) ≤ e = rw (is-treat i f.table.nodes c d) at f.space in
-      record { table = f.table; here = omega (arith, f.here); term = rw c.1.1.0 (f.table.nodes.of_treat i f.here (sym c.0 ∙ d)); space = s; top = f.top }
+  asks-treat {a} {t} c =
+      let b = below_i i f.table.nodes (λ z. omega (arith, c.0)) in
+      let s : room_i (Treat a (tree P t)) ≤ e = rw (is-treat i f.table.nodes c) at f.space in
+      record { table = f.table; here = omega (arith, f.here, c.2, f.table.nodes.righter i); term = rw c.2 at (f.table.nodes.of_treat i f.here c.0); space = s; top = f.top }
 
-  pub hit-treat : {D D₁ : List ℕ} {r : ℕ} (x : Letter) → k ≡ 7 → Drawn P D D₁ e r (tree P q) → Made P D D₁ e r (room_i (intr P i)) (hit x (intr P i))
+  pub hit-treat : {a t : ℕ} {D D₁ : List ℕ} {r : ℕ} (x : Letter) → Cols P i (node.Treat a t) → Drawn P D D₁ e r (tree P t) → Made P D D₁ e r (room_i (intr P i)) (hit x (intr P i))
   unfolding weight_i hit
-  hit-treat x d h = rw (is-treat i f.table.nodes c d) (drawn-made (tree P q) h)
+  hit-treat {a} {t} x c h = rw (is-treat i f.table.nodes c) (drawn-made (tree P t) h)
 
   -- `|`
-  pub hits-either : k ≡ 8 → Hits P l e n × Hits P q e n
+  pub hits-either : {l q : ℕ} → Cols P i (node.Either l q) → Hits P l e n × Hits P q e n × (l < i) × (q < i)
   unfolding weight_i
-  hits-either d =
-      let b = below_i f.table.nodes c (λ z. omega arith) in
-      let o = f.table.nodes.of_either i f.here (sym c.0 ∙ d) in
-      let s : room_i (Either (intr P l) (intr P q)) ≤ e = rw (is-either i f.table.nodes c d) at f.space in (
-        record { table = f.table; here = omega (arith, f.here); event = rw c.1.0 o.0; space = omega arith; top = f.top },
-        record { table = f.table; here = omega (arith, f.here); event = rw c.1.1.0 o.1; space = omega arith; top = f.top },
+  hits-either {l} {q} c =
+      let b = below_i i f.table.nodes (λ z. omega (arith, c.0)) in
+      let o = rw (c.1, c.2) at (f.table.nodes.of_either i f.here c.0) in
+      let s : room_i (Either (intr P l) (intr P q)) ≤ e = rw (is-either i f.table.nodes c) at f.space in (
+        record { table = f.table; here = omega (arith, f.here, c.1); event = o.0; space = omega arith; top = f.top },
+        record { table = f.table; here = omega (arith, f.here, c.2); event = o.1; space = omega arith; top = f.top },
+        omega (arith, c.1),
+        omega (arith, c.2),
       )
 
-  pub hit-either-l : {D D₁ : List ℕ} {r : ℕ} {v : Bool} (x : Letter) → k ≡ 8 → v ≡ strikes x (intr P l) → v ≡ true → Made P D D₁ e r (room_i (intr P l)) (hit x (intr P l)) → Made P D D₁ e r (room_i (intr P i)) (hit x (intr P i))
+  pub hit-either-l : {l q : ℕ} {D D₁ : List ℕ} {r : ℕ} {v : Bool} (x : Letter) → Cols P i (node.Either l q) → v ≡ strikes x (intr P l) → v ≡ true → Made P D D₁ e r (room_i (intr P l)) (hit x (intr P l)) → Made P D D₁ e r (room_i (intr P i)) (hit x (intr P i))
   unfolding weight_i hit
-  hit-either-l x d h t m = rw (is-either i f.table.nodes c d, sym h ∙ t) (made_up (omega arith) m)
+  hit-either-l x c h t m = rw (is-either i f.table.nodes c, sym h ∙ t) (made_up (omega arith) m)
 
-  pub hit-either-r : {D D₁ : List ℕ} {r : ℕ} {v : Bool} (x : Letter) → k ≡ 8 → v ≡ strikes x (intr P l) → v ≡ false → Made P D D₁ e r (room_i (intr P q)) (hit x (intr P q)) → Made P D D₁ e r (room_i (intr P i)) (hit x (intr P i))
+  pub hit-either-r : {l q : ℕ} {D D₁ : List ℕ} {r : ℕ} {v : Bool} (x : Letter) → Cols P i (node.Either l q) → v ≡ strikes x (intr P l) → v ≡ false → Made P D D₁ e r (room_i (intr P q)) (hit x (intr P q)) → Made P D D₁ e r (room_i (intr P i)) (hit x (intr P i))
   unfolding weight_i hit
-  hit-either-r x d h t m = rw (is-either i f.table.nodes c d, sym h ∙ t) (made_up (omega arith) m)
+  hit-either-r x c h t m = rw (is-either i f.table.nodes c, sym h ∙ t) (made_up (omega arith) m)
 
   -- `||`
-  pub hits-both : k ≡ 9 → Hits P q e n × (room_i (intr P q) + room_i (intr P l) + 1 ≤ e)
+  pub hits-both : {l q : ℕ} → Cols P i (node.Both l q) → Hits P q e n × (room_i (intr P q) + room_i (intr P l) + 1 ≤ e) × (l < i) × (q < i)
   unfolding weight_i
-  hits-both d =
-      let b = below_i f.table.nodes c (λ z. omega arith) in
-      let o = f.table.nodes.of_both i f.here (sym c.0 ∙ d) in
-      let s : room_i (Both (intr P l) (intr P q)) ≤ e = rw (is-both i f.table.nodes c d) at f.space in
-      (record { table = f.table; here = omega (arith, f.here); event = rw c.1.1.0 o.1; space = omega arith; top = f.top }, omega arith)
+  hits-both {l} {q} c =
+      let b = below_i i f.table.nodes (λ z. omega (arith, c.0)) in
+      let o = rw (c.1, c.2) at (f.table.nodes.of_both i f.here c.0) in
+      let s : room_i (Both (intr P l) (intr P q)) ≤ e = rw (is-both i f.table.nodes c) at f.space in (
+        record { table = f.table; here = omega (arith, f.here, c.2); event = o.1; space = omega arith; top = f.top },
+        omega arith,
+        omega (arith, c.1),
+        omega (arith, c.2),
+      )
 
-  pub hits-both-2 : {D D₁ : List ℕ} {b n₂ : ℕ} {ρ : Left} → n₂ ≡ n → k ≡ 9 → Made P D D₁ e b (room_i (intr P q)) ρ → Hits P l b n₂ × (room_i (intr P l) + 1 ≤ b)
-  hits-both-2 z d m =
-      let b = below_i f.table.nodes c (λ y. omega arith) in
-      let o = f.table.nodes.of_both i f.here (sym c.0 ∙ d) in
-      let s = (hits-both d).1 in
-      (record { table = f.table; here = omega (arith, f.here); event = rw c.1.0 o.0; space = omega (arith, m.fits); top = omega (arith, f.top, m.held.long) }, omega (arith, m.fits))
+  pub hits-both-2 : {l q : ℕ} {D D₁ : List ℕ} {b n₂ : ℕ} {ρ : Left} → n₂ ≡ n → Cols P i (node.Both l q) → Made P D D₁ e b (room_i (intr P q)) ρ → Hits P l b n₂ × (room_i (intr P l) + 1 ≤ b)
+  hits-both-2 z c m =
+      let o = rw (c.1, c.2) at (f.table.nodes.of_both i f.here c.0) in
+      let s = hits-both c in
+      (record { table = f.table; here = omega (arith, f.here, s.2); event = o.0; space = omega (arith, s.1, m.fits); top = omega (arith, f.top, m.held.long) }, omega (arith, s.1, m.fits))
 
   -- a side of `||` is `1/I` rewritten
-  pub hit-both : {D D₁ : List ℕ} {r : ℕ} (x : Letter) → k ≡ 9 → Made P D D₁ e r (room_i (intr P l) + room_i (intr P q) + 1) (par_l (rewritten x (Act One (intr P l))) (rewritten x (Act One (intr P q)))) → Made P D D₁ e r (room_i (intr P i)) (hit x (intr P i))
+  pub hit-both : {l q : ℕ} {D D₁ : List ℕ} {r : ℕ} (x : Letter) → Cols P i (node.Both l q) → Made P D D₁ e r (room_i (intr P l) + room_i (intr P q) + 1) (par_l (rewritten x (Act One (intr P l))) (rewritten x (Act One (intr P q)))) → Made P D D₁ e r (room_i (intr P i)) (hit x (intr P i))
   unfolding weight_i hit rewritten
-  hit-both x d m = rw (is-both i f.table.nodes c d) (made_up (omega arith) m)
+  hit-both x c m = rw (is-both i f.table.nodes c) (made_up (omega arith) m)
 
-  pub hit-event : (D : List ℕ) (x : Letter) → (k ≡ 7 → ⊥) → (k ≡ 8 → ⊥) → (k ≡ 9 → ⊥) → Made P D D e e (room_i (intr P i)) (hit x (intr P i))
-  unfolding hit
-  hit-event D x d₀ d₁ d₂ =
-      rw (intr-event P f.table.nodes i (λ z. d₀ (c.0 ∙ z)) (λ z. d₁ (c.0 ∙ z)) (λ z. d₂ (c.0 ∙ z)))
+  pub hit-event : (D : List ℕ) (x : Letter) (r : Node) → r ≡ node_of P i → ((a t : ℕ) → r ≡ node.Treat a t → ⊥) → ((a b : ℕ) → r ≡ node.Either a b → ⊥) → ((a b : ℕ) → r ≡ node.Both a b → ⊥) → Made P D D e e (room_i (intr P i)) (hit x (intr P i))
+  unfolding hit node_of
+  hit-event D x r o n₇ n₈ n₉ =
+      rw (intr-event P f.table.nodes i (λ z. n₇ (letter P i) (right P i) (o ∙ rw z)) (λ z. n₈ (left P i) (right P i) (o ∙ rw z)) (λ z. n₉ (left P i) (right P i) (o ∙ rw z)))
       record { held = nothing P D e; fits = omega arith }
 
 module _ {P : List ℕ} {i e n : ℕ} (f : Hits P i e n) where

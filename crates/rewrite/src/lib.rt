@@ -15,6 +15,7 @@ ghost use Rattle.words.specs.Pieces.{Table, Asks, Src, Made, top};
 ghost use Rattle.rewrite.specs.Steps.{letter_of, Works, Hits, room_i, SeqOn, StarOn, ActOn, ParOn, leaf, Stands, state};
 ghost use Rattle.rewrite.specs.Stored.{stored, lead, removed, Rests};
 
+use program::Node;
 use words::Unit;
 
 // A completion of a module, or an occurrence of an event.
@@ -109,21 +110,22 @@ fn hit(p: &[u8], i: usize, letter: Letter, dst: &mut [usize], e: usize) -> usize
     requires { Hits p.now i e (length dst.old) }
     ensures { Made p.now dst.old dst.new e result (room_i (intr p.now i)) (hit_by (letter_of letter) (intr p.now i)) }
 {
-    let n = words::node(p, i);
-    if n.kind == 7 {
-        words::expand(p, n.right, dst, e)
-    } else if n.kind == 8 {
-        if strikes(p, n.left, letter) {
-            hit(p, n.left, letter, dst, e)
-        } else {
-            hit(p, n.right, letter, dst, e)
+    match words::node(p, i) {
+        Node::Treat(_, by) => words::expand(p, usize::from(by), dst, e),
+        Node::Either(first, second) => {
+            let first = usize::from(first);
+            if strikes(p, first, letter) {
+                hit(p, first, letter, dst, e)
+            } else {
+                hit(p, usize::from(second), letter, dst, e)
+            }
         }
-    } else if n.kind == 9 {
-        let b = side(p, n.right, letter, dst, e);
-        let a = side(p, n.left, letter, dst, b);
-        go_on_par(dst, a, b, e)
-    } else {
-        e
+        Node::Both(left, right) => {
+            let b = side(p, usize::from(right), letter, dst, e);
+            let a = side(p, usize::from(left), letter, dst, b);
+            go_on_par(dst, a, b, e)
+        }
+        _ => e,
     }
 }
 

@@ -10,6 +10,8 @@ ghost use Rattle.words.specs.Word.{mark, arity, terms};
 ghost use Rattle.words.specs.Pieces.{Asks, Src, top};
 ghost use Rattle.walk.specs.Judging.{Tells, Weighted, Known, Sound, Judged, WaitJudged, JoinJudged, ActJudged, Part, Behind};
 
+use program::Node;
+
 fn wide(x: u8) -> usize
     ensures { result ≡ x }
 {
@@ -79,12 +81,10 @@ fn weigh_seq(p: &[u8], weights: &[u8], y: usize, a: usize) -> usize
     requires { Weighted p.now weights.now × ((y < 192) × (a ≤ 96)) }
     ensures { JoinJudged p.now y a result }
 {
-    let first = words::node(p, 0);
-    if first.letter <= y {
+    if words::count(p) <= y {
         return 97;
     }
-    let n = words::node(p, y);
-    if 5 < n.kind {
+    if !words::node(p, y).is_term() {
         return 97;
     }
     greater(room(a) + 1, wide(weights[y]))
@@ -103,15 +103,13 @@ fn weigh_star(
     requires { Weighted p.now weights.now × ((j < 192) × ((a ≤ 96) × (Src p.now w.now i × ((length w.now ≡ 96) × ((length tmp.old ≡ 96) × (a ≡ weight (top p.now w.now i))))))) }
     ensures { (ms : List ℕ) → Judged p.now ms (192 + j) (terms p.now (drop i w.now)) result }
 {
-    let first = words::node(p, 0);
-    if first.letter <= j {
+    if words::count(p) <= j {
         return 97;
     }
-    let n = words::node(p, j);
-    if n.kind != 4 {
+    let Node::Star(part) = words::node(p, j) else {
         return 97;
-    }
-    let part = n.left;
+    };
+    let part = usize::from(part);
     if wide(weights[part]) != a {
         return 97;
     }
@@ -128,12 +126,10 @@ fn weigh_act(p: &[u8], weights: &[u8], j: usize, next: usize, a: usize) -> usize
     requires { Weighted p.now weights.now × ((j < 192) × (a ≤ 96)) }
     ensures { ActJudged p.now (384 + j) next a result }
 {
-    let first = words::node(p, 0);
-    if first.letter <= j {
+    if words::count(p) <= j {
         return 97;
     }
-    let n = words::node(p, j);
-    if n.kind <= 5 {
+    if words::node(p, j).is_term() {
         return 97;
     }
     if next == 768 {
@@ -147,12 +143,10 @@ fn weigh_wait(p: &[u8], weights: &[u8], j: usize) -> usize
     requires { Weighted p.now weights.now × (j < 192) }
     ensures { WaitJudged p.now (576 + j) result }
 {
-    let first = words::node(p, 0);
-    if first.letter <= j {
+    if words::count(p) <= j {
         return 97;
     }
-    let n = words::node(p, j);
-    if n.kind <= 5 {
+    if words::node(p, j).is_term() {
         return 97;
     }
     room(wide(weights[j]))

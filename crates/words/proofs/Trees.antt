@@ -1,12 +1,20 @@
 -- A node's tree by its columns. Parts stand below their node, so more fuel than the node's number changes nothing (`tree_from-same`).
 -- Assumes nothing.
-use Prim.Native.Nat.{ℕ, zero, suc, ◌≤◌}
+use Prim.Native.Nat.{ℕ, zero, suc, ◌≤◌, ◌<◌}
+use mathlib.Core.Bool.{Bool, true, false}
 use mathlib.Core.List.{List}
+use mathlib.Core.Logic.{◌↔◌}
 use mathlib.Core.Path.{◌≡◌, refl}
 use native.Mathlib.Omega.{arith}
 use borrow.Author.Tests.{ne_eqb}
+use Rattle.std.specs.Bool.{IsTrue}
 use Rattle.paper.specs.Term.{Mod, One, Seq, Par, Star, Act, Event, Treat, Either, Both}
 use Rattle.laws.specs.Nodes.{Nodes, kind, left, right, letter, tree, intr, tree_from, intr_from, as_term, as_intr}
+use Rattle.program.specs.declared.Node.{Node}
+use Rattle.program.specs.declared.Node.TheVariants as node
+use Rattle.program.specs.Rows.{kind_in}
+use Rattle.words.specs.Pieces.{Cols}
+use Rattle.words.proofs.Marks.{by-lt, clash}
 
 module _ (P : List ℕ) (ns : Nodes P) where
   mutual
@@ -88,3 +96,25 @@ module _ (P : List ℕ) (ns : Nodes P) where
   pub intr-event : (i : ℕ) → (kind P i ≡ 7 → ⊥) → (kind P i ≡ 8 → ⊥) → (kind P i ≡ 9 → ⊥) → intr P i ≡ Event (letter P i)
   unfolding as_intr
   intr-event i a b c = rw (intr-is i, ne_eqb (kind P i) 7 a, ne_eqb (kind P i) 8 b, ne_eqb (kind P i) 9 c)
+
+-- the nodes of terms
+pub term-kind : (P : List ℕ) (j : ℕ) (n : Node) → Cols P j n → (kind_in n ≤ 5 → kind P j ≤ 5) × (kind P j ≤ 5 → kind_in n ≤ 5)
+term-kind P j (node.Module a) c = (λ h. omega (arith, c.0), λ h. omega arith)
+term-kind P j node.One c = (λ h. omega (arith, c), λ h. omega arith)
+term-kind P j (node.Sequence x y) c = (λ h. omega (arith, c.0), λ h. omega arith)
+term-kind P j (node.Par x y) c = (λ h. omega (arith, c.0), λ h. omega arith)
+term-kind P j (node.Star x) c = (λ h. omega (arith, c.0), λ h. omega arith)
+term-kind P j (node.Act x i) c = (λ h. omega (arith, c.0), λ h. omega arith)
+term-kind P j (node.Event e) c = (λ h. absurd (omega arith), λ h. absurd (omega (arith, c.0)))
+term-kind P j (node.Treat e t) c = (λ h. absurd (omega arith), λ h. absurd (omega (arith, c.0)))
+term-kind P j (node.Either i k) c = (λ h. absurd (omega arith), λ h. absurd (omega (arith, c.0)))
+term-kind P j (node.Both i k) c = (λ h. absurd (omega arith), λ h. absurd (omega (arith, c.0)))
+
+-- what the test of a term's node says of its kind
+module _ (P : List ℕ) (j : ℕ) (n : Node) {v : Bool} (c : Cols P j n) (e : IsTrue v ↔ (kind_in n ≤ 5)) where
+  pub kind-of : v ≡ true → kind P j ≤ 5
+  kind-of t = (term-kind P j n c).0 (e.0 t)
+
+  pub kind-over : v ≡ false → 5 < kind P j
+  kind-over f =
+      by-lt (kind P j) 6 (λ l. let t : v ≡ true = e.1 ((term-kind P j n c).1 (omega arith)) in clash cc) (λ h. h)

@@ -5,10 +5,12 @@
 
 ghost use Rattle.std.specs.Prelude.{◌≡◌, ◌∷◌, ◌+◌, ◌-◌, ◌^◌, ◌≤◌, ◌<◌, length, take, drop, get_or};
 ghost use Rattle.paper.specs.Running.{heads};
-ghost use Rattle.laws.specs.Nodes.{Nodes, count, tree, intr};
+ghost use Rattle.laws.specs.Nodes.{Nodes, letter, count, tree, intr};
 ghost use Rattle.words.specs.Unit.{unit_mark, number_of, HasNode, HasEvent};
 ghost use Rattle.words.specs.Word.{Right, mark, arity, terms, any_runs, any_armed, arms};
-ghost use Rattle.words.specs.Pieces.{Cols, Put, Faced, Asks, Drawn, Src, Past, Agree};
+ghost use Rattle.words.specs.Pieces.{node_of, Cols, Put, Faced, Asks, Drawn, Src, Past, Agree};
+
+use program::Node;
 
 // A unit of a word: the node after `;`, the starred node before its part, the interruption of a `/` and of `1/i`, `1`, `||`, a module.
 #[derive(Clone, Copy, PartialEq, Eq, Debug)]
@@ -72,32 +74,42 @@ impl Unit {
     }
 }
 
-// A node's four columns.
-#[derive(Clone, Copy)]
-pub struct Columns {
-    pub kind: usize,
-    pub left: usize,
-    pub right: usize,
-    pub letter: usize,
-}
-
-fn wide(x: u8) -> usize
-    ensures { result ≡ x }
-{
-    x as usize
-}
-
-// The columns of node j: the only place that reads the table's bytes.
-pub fn node(p: &[u8], j: usize) -> Columns
+// Node j.
+#[tactic(auto, unfolding(crate::specs::Pieces::node_of))]
+pub fn node(p: &[u8], j: usize) -> Node
     requires { (length p.now ≡ 768) × (j < 192) }
-    ensures { Cols p.now j result.kind result.left result.right result.letter }
+    ensures row { result ≡ node_of p.now j }
+    ensures columns { Cols p.now j result }
 {
-    Columns {
-        kind: wide(p[j]),
-        left: wide(p[j + 192]),
-        right: wide(p[j + 384]),
-        letter: wide(p[j + 576]),
+    let (left, right) = (p[j + 192], p[j + 384]);
+    match p[j] {
+        0 => Node::Module(letter(p, j)),
+        1 => Node::One,
+        2 => Node::Sequence(left, right),
+        3 => Node::Par(left, right),
+        4 => Node::Star(left),
+        5 => Node::Act(left, right),
+        7 => Node::Treat(letter(p, j), right),
+        8 => Node::Either(left, right),
+        9 => Node::Both(left, right),
+        _ => Node::Event(letter(p, j)),
     }
+}
+
+// The letter of node j.
+pub fn letter(p: &[u8], j: usize) -> u8
+    requires { (length p.now ≡ 768) × (j < 192) }
+    ensures { result ≡ letter p.now j }
+{
+    p[j + 576]
+}
+
+// How many nodes there are: the table has the number where node 0 would have its letter.
+pub fn count(p: &[u8]) -> usize
+    requires { length p.now ≡ 768 }
+    ensures { result ≡ count p.now }
+{
+    usize::from(letter(p, 0))
 }
 
 // Writes a unit in front of place e, and answers its place.
@@ -125,24 +137,26 @@ pub fn expand(p: &[u8], j: usize, dst: &mut [usize], e: usize) -> usize
     requires { Asks p.now j e (length dst.old) }
     ensures { Drawn p.now dst.old dst.new e result (tree p.now j) }
 {
-    let n = node(p, j);
-    if n.kind == 2 {
-        let a = expand(p, n.left, dst, e);
-        put(dst, a, Unit::Sequence(n.right))
-    } else if n.kind == 3 {
-        let b = expand(p, n.right, dst, e);
-        let a = expand(p, n.left, dst, b);
-        put(dst, a, Unit::Par)
-    } else if n.kind == 4 {
-        let a = expand(p, n.left, dst, e);
-        put(dst, a, Unit::Star(j))
-    } else if n.kind == 5 {
-        let a = expand(p, n.left, dst, e);
-        put_act(dst, a, n.right)
-    } else if n.kind == 0 {
-        put(dst, e, Unit::Module(n.letter))
-    } else {
-        put(dst, e, Unit::One)
+    match node(p, j) {
+        Node::Module(letter) => put(dst, e, Unit::Module(usize::from(letter))),
+        Node::Sequence(first, then) => {
+            let a = expand(p, usize::from(first), dst, e);
+            put(dst, a, Unit::Sequence(usize::from(then)))
+        }
+        Node::Par(left, right) => {
+            let b = expand(p, usize::from(right), dst, e);
+            let a = expand(p, usize::from(left), dst, b);
+            put(dst, a, Unit::Par)
+        }
+        Node::Star(part) => {
+            let a = expand(p, usize::from(part), dst, e);
+            put(dst, a, Unit::Star(j))
+        }
+        Node::Act(part, by) => {
+            let a = expand(p, usize::from(part), dst, e);
+            put_act(dst, a, usize::from(by))
+        }
+        _ => put(dst, e, Unit::One),
     }
 }
 
@@ -183,15 +197,11 @@ pub fn headed(p: &[u8], i: usize, x: usize) -> bool
     requires { Nodes p.now × (i < count p.now) }
     ensures { result ≡ heads x (intr p.now i) }
 {
-    let n = node(p, i);
-    if n.kind == 8 || n.kind == 9 {
-        if headed(p, n.left, x) {
-            true
-        } else {
-            headed(p, n.right, x)
+    match node(p, i) {
+        Node::Either(first, second) | Node::Both(first, second) => {
+            headed(p, usize::from(first), x) || headed(p, usize::from(second), x)
         }
-    } else {
-        x == n.letter
+        _ => x == usize::from(letter(p, i)),
     }
 }
 

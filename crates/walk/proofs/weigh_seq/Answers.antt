@@ -2,13 +2,14 @@
 -- Assumes nothing.
 use Rattle.walk.proofs.Units.{seq-not, seq-kind, seq-is}
 use native.Mathlib.Omega.{arith}
+use Rattle.words.proofs.Trees.{kind-of, kind-over}
 use Rattle.walk.proofs.weigh_seq.Goals as goal
 
-pub returns-then-first-y : goal.returns-then-first-y
-returns-then-first-y c = λ ms ts d e. seq-not c.args.y c.requires.1.0 (omega (arith, c.if-first-y.true, c.node-first.ensures.1.1.1))
+pub returns-then-count-y : goal.returns-then-count-y
+returns-then-count-y c = λ ms ts d e. seq-not c.args.y c.requires.1.0 (omega (arith, c.if-count-y.true, c.count.ensures))
 
-pub returns-then-n-gt5 : goal.returns-then-n-gt5
-returns-then-n-gt5 c = λ ms ts d e. seq-kind c.args.y c.requires.1.0 (omega (arith, c.if-n-gt5.true, c.node-n.ensures.0))
+pub returns-then-not-is_term : goal.returns-then-not-is_term
+returns-then-not-is_term c = λ ms ts d e. seq-kind c.args.y c.requires.1.0 (kind-over c.args.p.now c.args.y c.node.result c.node.ensures.columns c.is_term.ensures c.if-not-is_term.true)
 
 pub returns : goal.returns
-returns c = λ ms ts d e. seq-is c.args.y c.args.a _ c.requires.0 c.requires.1.0 (omega (arith, c.if-first-y.false, c.node-first.ensures.1.1.1)) (omega (arith, c.if-n-gt5.false, c.node-n.ensures.0)) d e (omega (arith, c.greater.ensures, c.room.ensures, c.wide.ensures))
+returns c = λ ms ts d e. seq-is c.args.y c.args.a _ c.requires.0 c.requires.1.0 (omega (arith, c.if-count-y.false, c.count.ensures)) (kind-of c.args.p.now c.args.y c.node.result c.node.ensures.columns c.is_term.ensures c.if-not-is_term.false) d e (omega (arith, c.greater.ensures, c.room.ensures, c.wide.ensures))
