@@ -10,7 +10,7 @@ use std::io::{Read, Write};
 use streams::Call;
 
 // A live state has 255 bytes at most.
-fn print_answer<W: Write>(output: &mut W, answer: Answer, live: &[u8]) -> io::Result<()> {
+fn print_live<W: Write>(output: &mut W, answer: Answer, live: &[u8]) -> io::Result<()> {
     let mut line = ArrayVec::<u8, 576>::new();
     if answer.number != 0 {
         write!(line, "refused {} at {}", answer.number, answer.place)?;
@@ -28,7 +28,7 @@ fn print_answer<W: Write>(output: &mut W, answer: Answer, live: &[u8]) -> io::Re
 }
 
 // One frame; false at the end of the input.
-fn answer_frame<R: Read, W: Write>(
+fn live_call<R: Read, W: Write>(
     input: &mut R,
     output: &mut W,
     space: &mut [u8; 65536],
@@ -50,7 +50,7 @@ fn answer_frame<R: Read, W: Write>(
         Call::Start => engine::start(file, live),
         Call::Step => engine::step(file, live, letter),
     };
-    print_answer(output, answer, live)?;
+    print_live(output, answer, live)?;
     Ok(true)
 }
 
@@ -58,6 +58,6 @@ fn main(rt: HostRuntime) -> io::Result<()> {
     let mut output = rt.stdout();
     let mut space = [0u8; 65536];
     streams::frames(&mut rt.stdin(), |input| {
-        answer_frame(input, &mut output, &mut space)
+        live_call(input, &mut output, &mut space)
     })
 }

@@ -7,7 +7,9 @@ ghost use Rattle.std.specs.Prelude.{◌<◌};
 
 use arrayvec::ArrayVec;
 use letters::Names;
+use program::Node;
 use reader::{Program, Verdict};
+use refusals::Edition;
 use std::io;
 use std::io::{Read, Write};
 
@@ -42,38 +44,44 @@ fn put_flags(line: &mut Line, flags: [bool; 26]) -> io::Result<()> {
 }
 
 // A node's own letter or mark.
-fn mark(kind: u8, letter: u8) -> u8 {
-    match kind {
-        0 => b'a' + letter % 26,
-        1 => b'1',
-        2 => b';',
-        3 => b'|',
-        4 => b'*',
-        5 => b'/',
-        6 => b'A' + letter % 26,
-        7 => b':',
-        8 => b'!',
-        _ => b'&',
+fn mark_of(node: Node) -> u8 {
+    match node {
+        Node::Module(letter) => b'a' + letter % 26,
+        Node::One => b'1',
+        Node::Sequence(..) => b';',
+        Node::Par(..) => b'|',
+        Node::Star(_) => b'*',
+        Node::Act(..) => b'/',
+        Node::Event(letter) => b'A' + letter % 26,
+        Node::Treat(..) => b':',
+        Node::Either(..) => b'!',
+        Node::Both(..) => b'&',
     }
 }
 
 // Node i in postorder, at most `depth` nodes deep.
-fn put_node(line: &mut Line, nodes: &[u8; 768], i: u8, depth: usize) -> io::Result<()> {
+fn put_node(line: &mut Line, nodes: &[u8; 768], i: usize, depth: usize) -> io::Result<()> {
     if depth == 0 {
         return Ok(());
     }
-    let place = usize::from(i) % 192;
-    let kind = nodes[place];
-    if kind == 7 {
-        line.write_all(&[b'A' + nodes[place + 576] % 26])?;
+    let node = words::node(nodes, i % 192);
+    match node {
+        Node::Module(_) | Node::One | Node::Event(_) => {}
+        Node::Star(part) => put_node(line, nodes, usize::from(part), depth - 1)?,
+        Node::Treat(event, part) => {
+            line.write_all(&[b'A' + event % 26])?;
+            put_node(line, nodes, usize::from(part), depth - 1)?;
+        }
+        Node::Sequence(left, right)
+        | Node::Par(left, right)
+        | Node::Act(left, right)
+        | Node::Either(left, right)
+        | Node::Both(left, right) => {
+            put_node(line, nodes, usize::from(left), depth - 1)?;
+            put_node(line, nodes, usize::from(right), depth - 1)?;
+        }
     }
-    if matches!(kind, 2..=5 | 8 | 9) {
-        put_node(line, nodes, nodes[place + 192], depth - 1)?;
-    }
-    if matches!(kind, 2 | 3 | 5 | 7..=9) {
-        put_node(line, nodes, nodes[place + 384], depth - 1)?;
-    }
-    line.write_all(&[mark(kind, nodes[place + 576])])
+    line.write_all(&[mark_of(node)])
 }
 
 fn put_program(line: &mut Line, program: Program, nodes: &[u8; 768]) -> io::Result<()> {
@@ -82,15 +90,15 @@ fn put_program(line: &mut Line, program: Program, nodes: &[u8; 768]) -> io::Resu
     put_names(line, program.events, b'A')?;
     put_flags(line, program.fugitive)?;
     line.write_all(b" ")?;
-    put_node(line, nodes, (program.root % 256) as u8, 192)?;
+    put_node(line, nodes, program.root, 192)?;
     line.write_all(b"\n")
 }
 
-fn print_reading<W: Write>(output: &mut W, file: &[u8], basic: bool) -> io::Result<()> {
+fn print_reading<W: Write>(output: &mut W, file: &[u8], edition: Edition) -> io::Result<()> {
     let mut line = Line::new();
     let mut nodes = [0u8; 768];
     let mut weights = [0u8; 192];
-    let program = reader::read(file, basic, &mut nodes, &mut weights);
+    let program = reader::read(file, edition == Edition::Basic, &mut nodes, &mut weights);
     match program.verdict {
         Verdict::Refused { number, place } => writeln!(line, "refused {number} at {place}")?,
         Verdict::Accepted => put_program(&mut line, program, &nodes)?,
@@ -107,8 +115,8 @@ fn read_frame<R: Read, W: Write>(
     let Some(file) = streams::block(input, space)? else {
         return Ok(false);
     };
-    print_reading(output, file, true)?;
-    print_reading(output, file, false)?;
+    print_reading(output, file, Edition::Basic)?;
+    print_reading(output, file, Edition::Adaptive)?;
     Ok(true)
 }
 

@@ -9,7 +9,7 @@ use std::io::{Read, Write};
 use streams::Call;
 use table::Answer;
 
-fn print_answer<W: Write>(output: &mut W, answer: Answer) -> io::Result<()> {
+fn print_state<W: Write>(output: &mut W, answer: Answer) -> io::Result<()> {
     let mut line = ArrayVec::<u8, 64>::new();
     if answer.number != 0 {
         write!(line, "refused {}", answer.number)?;
@@ -24,7 +24,7 @@ fn print_answer<W: Write>(output: &mut W, answer: Answer) -> io::Result<()> {
 }
 
 // One frame; false at the end of the input.
-fn answer_frame<R: Read, W: Write>(
+fn table_call<R: Read, W: Write>(
     input: &mut R,
     output: &mut W,
     space: &mut [u8; 65536],
@@ -41,7 +41,7 @@ fn answer_frame<R: Read, W: Write>(
         Call::Start => table::start(table),
         Call::Step => table::step(table, usize::from(u16::from_be_bytes([high, low])), letter),
     };
-    print_answer(output, answer)?;
+    print_state(output, answer)?;
     Ok(true)
 }
 
@@ -49,6 +49,6 @@ fn main(rt: HostRuntime) -> io::Result<()> {
     let mut output = rt.stdout();
     let mut space = [0u8; 65536];
     streams::frames(&mut rt.stdin(), |input| {
-        answer_frame(input, &mut output, &mut space)
+        table_call(input, &mut output, &mut space)
     })
 }
