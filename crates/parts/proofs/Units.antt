@@ -11,57 +11,44 @@ use Rattle.paper.specs.Term.{Term, parts}
 use Rattle.paper.specs.Refusals.{parts_of}
 use Rattle.laws.specs.Nodes.{kind, count}
 use Rattle.words.specs.Word.{Mark, u_seq, u_star, u_act, u_wait, u_one, u_par, u_mod, mark, apply, terms, Fine, Right}
-use Rattle.words.proofs.Marks.{by-lt, mark-seq, mark-star, mark-act, mark-wait, mark-one, mark-par, mark-mod}
 use Rattle.rewrite.specs.Steps.{left_of, state, Stands}
 use Rattle.parts.specs.Parts.{capped, Counted, unit_parts, all_parts, Meant}
 use Rattle.parts.proofs.Rows.{term-parts, intr-parts}
 
 -- ---- what a unit adds, from the counts of the nodes
-module _ {P ns : List ℕ} {u : ℕ} (t : Counted P ns) (m : Meant P u) where
-  seq_node : u < 192 → (u < count P) × (kind P u ≤ 5)
+module _ {P ns : List ℕ} {j : ℕ} (t : Counted P ns) where
+  seq_node : Meant P (u_seq j) → (j < count P) × (kind P j ≤ 5)
   unfolding Fine
-  seq_node h = let f : Fine P (u_seq u) m.after = rw (mark-seq u h) at m.fine in f.1
+  seq_node m = m.fine.1
 
-  act-node : 384 ≤ u → u < 576 → (u - 384 < count P) × (5 < kind P (u - 384))
+  act-node : Meant P (u_act j) → (j < count P) × (5 < kind P j)
   unfolding Fine
-  act-node l h = let f : Fine P (u_act (u - 384)) m.after = rw (mark-act u l h) at m.fine in (f.1.0, f.1.1.0)
+  act-node m = (m.fine.1.0, m.fine.1.1.0)
 
-  wait-node : 576 ≤ u → u < 768 → (u - 576 < count P) × (5 < kind P (u - 576))
+  wait-node : Meant P (u_wait j) → (j < count P) × (5 < kind P j)
   unfolding Fine
-  wait-node l h = rw (mark-wait u l h) at m.fine
+  wait-node m = m.fine
 
-  pub seq-place : u < 192 → u < length ns
-  seq-place h = omega (arith, (seq_node h).0, t.places)
+  pub seq-place : Meant P (u_seq j) → (j < 192) × (j < length ns)
+  seq-place m = let h = (seq_node m).0 in (omega (arith, t.table.nodes.few), omega (arith, t.places))
 
-  pub act-place : 384 ≤ u → u < 576 → u - 384 < length ns
-  act-place l h = omega (arith, (act-node l h).0, t.places)
+  pub act-place : Meant P (u_act j) → (j < 192) × (j < length ns)
+  act-place m = let h = (act-node m).0 in (omega (arith, t.table.nodes.few), omega (arith, t.places))
 
-  pub wait-place : 576 ≤ u → u < 768 → u - 576 < length ns
-  wait-place l h = omega (arith, (wait-node l h).0, t.places)
+  pub wait-place : Meant P (u_wait j) → (j < 192) × (j < length ns)
+  wait-place m = let h = (wait-node m).0 in (omega (arith, t.table.nodes.few), omega (arith, t.places))
 
-  pub seq-adds : u < 192 → capped (1 + get_or ns u 0) ≡ capped (unit_parts P (mark u))
+  pub seq-adds : Meant P (u_seq j) → capped (1 + get_or ns j 0) ≡ capped (unit_parts P (u_seq j))
   unfolding unit_parts
-  seq-adds h = let n = seq_node h in rw (mark-seq u h) (omega (arith, t.counts u n.0, term-parts P u n.1))
+  seq-adds m = let n = seq_node m in omega (arith, t.counts j n.0, term-parts P j n.1)
 
-  pub act-adds : 384 ≤ u → u < 576 → capped (1 + get_or ns (u - 384) 0) ≡ capped (unit_parts P (mark u))
+  pub act-adds : Meant P (u_act j) → capped (1 + get_or ns j 0) ≡ capped (unit_parts P (u_act j))
   unfolding unit_parts
-  act-adds l h = let n = act-node l h in rw (mark-act u l h) (omega (arith, t.counts (u - 384) n.0, intr-parts P (u - 384) n.1))
+  act-adds m = let n = act-node m in omega (arith, t.counts j n.0, intr-parts P j n.1)
 
-  pub wait-adds : 576 ≤ u → u < 768 → capped (2 + get_or ns (u - 576) 0) ≡ capped (unit_parts P (mark u))
+  pub wait-adds : Meant P (u_wait j) → capped (2 + get_or ns j 0) ≡ capped (unit_parts P (u_wait j))
   unfolding unit_parts
-  wait-adds l h = let n = wait-node l h in rw (mark-wait u l h) (omega (arith, t.counts (u - 576) n.0, intr-parts P (u - 576) n.1))
-
-pub star-adds : (P : List ℕ) (u : ℕ) → 192 ≤ u → u < 384 → 1 ≡ capped (unit_parts P (mark u))
-unfolding unit_parts
-star-adds P u l h = rw (mark-star u l h)
-
--- `1`, `||` and a module
-pub leaf-adds : (P : List ℕ) (u : ℕ) → 768 ≤ u → 1 ≡ capped (unit_parts P (mark u))
-unfolding unit_parts
-leaf-adds P u h =
-    by-lt u 769 (λ l. let q : u ≡ 768 = omega arith in rw (q, mark-one)) λ l.
-    by-lt u 770 (λ g. let q : u ≡ 769 = omega arith in rw (q, mark-par)) λ g.
-    rw (mark-mod u g)
+  wait-adds m = let n = wait-node m in omega (arith, t.counts j n.0, intr-parts P j n.1)
 
 -- ---- the parts of the terms
 parts-unit : (P : List ℕ) (k : Mark) (st : List Term) → Fine P k st → all_parts (apply P k st) ≡ unit_parts P k + all_parts st
@@ -79,40 +66,40 @@ parts-unit P u_par (x ∷ []) f = absurd (omega arith)
 parts-unit P u_par (x ∷ y ∷ st) f = omega arith
 parts-unit P (u_mod a) st f = omega arith
 
--- the loop of `parts_of`, before place i: n and the parts from i on are those from s on
-pub record Summed (P S : List ℕ) (s n i : ℕ) : Type 0 where
-  pub within : i ≤ length S
-  pub right : Right P (drop i S)
+-- the loop of `parts_of`, before the i-th unit of the word U: n and the parts from there on are all of them
+pub record Summed (P U : List ℕ) (n i : ℕ) : Type 0 where
+  pub within : i ≤ length U
+  pub right : Right P (drop i U)
   pub small : n ≤ 8193
-  pub so_far : capped (n + all_parts (terms P (drop i S))) ≡ capped (all_parts (terms P (drop s S)))
+  pub so_far : capped (n + all_parts (terms P (drop i U))) ≡ capped (all_parts (terms P U))
 
-pub summed-start : {P S : List ℕ} {s : ℕ} → Stands P S s → Summed P S s 0 s
-summed-start st = record { within = omega (arith, st.long, st.within); right = st.right; small = omega arith; so_far = omega arith }
+pub summed-start : {P U : List ℕ} → Right P U → Summed P U 0 0
+summed-start r = record { within = omega arith; right = r; small = omega arith; so_far = omega arith }
 
-module _ {P S : List ℕ} {s n i : ℕ} (g : Summed P S s n i) (h : i < length S) where
+module _ {P U : List ℕ} {n i : ℕ} (g : Summed P U n i) (h : i < length U) where
   abbrev unit : ℕ
-  unit = get_or S i 0
+  unit = get_or U i 0
 
-  cons : drop i S ≡ unit ∷ drop (i + 1) S
-  cons = drop-cons S i 0 h ∙ ap (λ (k : ℕ). unit ∷ drop k S) (sym (add-one i))
+  cons : drop i U ≡ unit ∷ drop (i + 1) U
+  cons = drop-cons U i 0 h ∙ ap (λ (k : ℕ). unit ∷ drop k U) (sym (add-one i))
 
-  split : Right P (drop (i + 1) S) × Fine P (mark unit) (terms P (drop (i + 1) S))
+  split : Right P (drop (i + 1) U) × Fine P (mark unit) (terms P (drop (i + 1) U))
   unfolding Right
   split = rw cons at g.right
 
-  pub summed-meant : Meant P unit
-  summed-meant = record { after = terms P (drop (i + 1) S); fine = split.1 }
+  pub summed-meant : {m : Mark} → m ≡ mark unit → Meant P m
+  summed-meant e = record { after = terms P (drop (i + 1) U); fine = rw e split.1 }
 
-  adds : all_parts (terms P (drop i S)) ≡ unit_parts P (mark unit) + all_parts (terms P (drop (i + 1) S))
+  adds : all_parts (terms P (drop i U)) ≡ unit_parts P (mark unit) + all_parts (terms P (drop (i + 1) U))
   unfolding terms
-  adds = rw cons (parts-unit P (mark unit) (terms P (drop (i + 1) S)) split.1)
+  adds = rw cons (parts-unit P (mark unit) (terms P (drop (i + 1) U)) split.1)
 
-  pub summed-next : (q k : ℕ) → q ≡ capped (unit_parts P (mark unit)) → k ≡ capped (n + q) → Summed P S s k (i + 1)
-  summed-next q k e f = record {
+  pub summed-next : {m : Mark} {q k : ℕ} → m ≡ mark unit → q ≡ capped (unit_parts P m) → k ≡ capped (n + q) → Summed P U k (i + 1)
+  summed-next d e f = record {
     within = omega arith;
     right = split.0;
     small = omega arith;
-    so_far = omega (arith, g.so_far, adds);
+    so_far = omega (arith, g.so_far, adds, ap (unit_parts P) d);
   }
 
 -- a state has one term at most, so its parts are those of what is left
@@ -126,6 +113,6 @@ none_left : (P S : List ℕ) (i : ℕ) → length S ≤ i → all_parts (terms P
 unfolding all_parts terms
 none_left P S i h = rw (drop_of_length-le S h)
 
-pub summed-end : {P S : List ℕ} {s n i : ℕ} → Stands P S s → Summed P S s n i → length S ≤ i → n ≡ capped (parts_of (state P S s))
+pub summed-end : {P S : List ℕ} {s n i : ℕ} → Stands P S s → Summed P (drop s S) n i → length (drop s S) ≤ i → n ≡ capped (parts_of (state P S s))
 summed-end {P} {S} {s} {n} {i} st g h =
-    omega (arith, g.small, g.so_far, none_left P S i h, parts-left (terms P (drop s S)) st.single)
+    omega (arith, g.small, g.so_far, none_left P (drop s S) i h, parts-left (terms P (drop s S)) st.single)

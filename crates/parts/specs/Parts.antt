@@ -6,12 +6,12 @@
 --     Counted P ns          ns has, capped, the parts of each node of the table P
 --     unit_parts P m         what a unit adds to the parts of the terms after it
 --     all_parts ts           the parts of all the terms
---     Meant P u             the unit u may stand before some terms
+--     Meant P m             a unit that says m may stand before some terms
 -- Assumes nothing.
 use Rattle.std.specs.Prelude.{ℕ, suc, ◌+◌, ◌≤◌, ◌<◌, min, cond, ◌||◌, List, [], ◌∷◌, ◌≡◌, eqb, leb, get_or, length}
 use Rattle.paper.specs.Term.{Term, parts, parts_i}
 use Rattle.laws.specs.Nodes.{kind, count, tree, intr}
-use Rattle.words.specs.Word.{Mark, u_seq, u_star, u_act, u_wait, u_one, u_par, u_mod, mark, Fine}
+use Rattle.words.specs.Word.{Mark, u_seq, u_star, u_act, u_wait, u_one, u_par, u_mod, Fine}
 use Rattle.words.specs.Pieces.{Table}
 
 abbrev pub capped : ℕ → ℕ
@@ -45,6 +45,6 @@ unfoldable pub all_parts : List Term → ℕ
 all_parts [] = 0
 all_parts (t ∷ ts) = parts t + all_parts ts
 
-pub record Meant (P : List ℕ) (u : ℕ) : Type 0 where
+pub record Meant (P : List ℕ) (m : Mark) : Type 0 where
   pub after : List Term
-  pub fine : Fine P (mark u) after
+  pub fine : Fine P m after

@@ -4,19 +4,18 @@
 
 ghost use Rattle.std.specs.Prelude.{◌+◌, ◌≤◌, ◌≡◌, length};
 ghost use Rattle.paper.specs.Refusals.{parts_of};
-ghost use Rattle.words.specs.Word.{mark};
+ghost use Rattle.words.specs.Unit.{unit_mark};
 ghost use Rattle.words.specs.Pieces.{Table};
 ghost use Rattle.rewrite.specs.Steps.{state, Stands};
 ghost use Rattle.parts.specs.Parts.{capped, row_parts, Counted, unit_parts, Meant};
+
+use words::Unit;
 
 // The sum, or 8,193 where it is more.
 fn plus(a: usize, b: usize) -> usize
     ensures { result ≡ capped (a + b) }
 {
-    if 8193 < a {
-        return 8193;
-    }
-    if 8193 - a < b { 8193 } else { a + b }
+    a.saturating_add(b).min(8193)
 }
 
 // The parts of a node of the kind k whose own parts have l and r.
@@ -48,21 +47,16 @@ pub fn count_parts(nodes: &[u8], sizes: &mut [usize])
     }
 }
 
-// What the unit u adds. The table p says what it means, and is not read.
-fn unit_parts(p: &[u8], sizes: &[usize], u: usize) -> usize
-    requires { Counted p.now sizes.now × Meant p.now u }
-    ensures { result ≡ capped (unit_parts p.now (mark u)) }
+// What a unit adds to the parts of the terms after it. The table p says what it means, and is not read.
+#[tactic(auto, unfolding(crate::specs::Parts::unit_parts))]
+fn unit_parts(p: &[u8], sizes: &[usize], unit: Unit) -> usize
+    requires { Counted p.now sizes.now × Meant p.now (unit_mark unit) }
+    ensures { result ≡ capped (unit_parts p.now (unit_mark unit)) }
 {
-    if u < 192 {
-        plus(1, sizes[u])
-    } else if u < 384 {
-        1
-    } else if u < 576 {
-        plus(1, sizes[u - 384])
-    } else if u < 768 {
-        plus(2, sizes[u - 576])
-    } else {
-        1
+    match unit {
+        Unit::Sequence(node) | Unit::Act(node) => plus(1, sizes[node]),
+        Unit::Wait(node) => plus(2, sizes[node]),
+        Unit::Star(_) | Unit::One | Unit::Par | Unit::Module(_) => 1,
     }
 }
 
@@ -72,11 +66,9 @@ pub fn parts_of(p: &[u8], sizes: &[usize], w: &[usize], s: usize) -> usize
     requires { Counted p.now sizes.now × Stands p.now w.now s }
     ensures { result ≡ capped (parts_of (state p.now w.now s)) }
 {
-    let mut n: usize = 0;
-    let mut i = s;
-    while i < w.len() {
-        n = plus(n, unit_parts(p, sizes, w[i]));
-        i += 1;
+    let mut n = 0;
+    for &unit in &w[s..] {
+        n = plus(n, unit_parts(p, sizes, Unit::of(unit)));
     }
     n
 }

@@ -1,28 +1,31 @@
 -- What a unit weighs, by its range: with the part's weight and the node's, or that it may not stand there (`Judging`).
 -- Assumes nothing.
-use Prim.Native.Nat.{ℕ, ◌+◌, ◌-◌, ◌≤◌, ◌<◌, max}
+use Prim.Native.Nat.{ℕ, zero, suc, ◌+◌, ◌-◌, ◌≤◌, ◌<◌, max}
 use mathlib.Core.Bool.{Bool, true, false, ◌||◌}
-use mathlib.Core.List.{List, [], ◌∷◌}
+use mathlib.Core.List.{List, [], ◌∷◌, ◌++◌, map, reverse}
 use mathlib.Core.Logic.{◌↔◌}
 use mathlib.Core.Path.{◌≡◌, refl, sym, ap, subst, ◌∙◌}
 use native.Mathlib.Omega.{arith}
-use native.Mathlib.Numerals.{add-one}
-use lib.Seq.{drop-cons}
-use lib.Dec.{T, eqb, ltb, leb}
-use lib.ListN.{length, drop, take, get_or, drop_of_length-le}
-use borrow.Author.Tests.{eq-eqb, ne_eqb, lt-ltb, le-ltb, le-leb, lt-leb, leb-true, leb-false}
+use lib.Dec.{T, ltb, leb}
+use lib.ListN.{length, drop, take, get_or, length-map}
+use borrow.Author.Tests.{lt-ltb, le-ltb, le-leb, lt-leb, leb-true, leb-false}
+use Rattle.std.proofs.Common.{Option, Some, None, OnSome}
+use Rattle.std.proofs.lemmas.List.{reverse-append, length-reverse}
 use Rattle.paper.specs.Lists.{has}
 use Rattle.paper.specs.Term.{Term, One}
 use Rattle.laws.specs.Nodes.{kind, left, count, tree, intr}
 use Rattle.laws.specs.Weight.{weight, weight_i}
 use Rattle.nodes.specs.Weights.{node_weight}
+use Rattle.words.specs.declared.Unit.{Unit as Given}
+use Rattle.words.specs.declared.Unit.TheVariants.{Sequence, Star, Act, Wait, One as Skip, Par, Module}
+use Rattle.words.specs.Unit.{unit_mark}
 use Rattle.words.specs.Word.{Mark, u_seq, u_star, u_act, u_wait, u_one, u_par, u_mod, mark, arity, hd, tl, apply, terms, Fine}
 use Rattle.words.specs.Pieces.{Table, Asks, Drawn, Src, Past, Agree, top}
-use Rattle.words.proofs.Marks.{mark-seq, mark-star, mark-act, mark-wait, mark-one, mark-par, mark-mod, mark-one-only, says-one}
+use Rattle.words.proofs.Marks.{by-lt, clash, mark-mod, unmark, unmark-mark, says-one}
 use Rattle.words.proofs.Determined.{inj}
 use Rattle.words.proofs.Joins.{units}
-use Rattle.words.proofs.Reading.{src-terms}
-use Rattle.walk.specs.Judging.{Tells, Weighted, Judged, Part, Behind}
+use Rattle.words.proofs.Reading.{src-terms, drop-one}
+use Rattle.walk.specs.Judging.{Tells, Weighted, Placed, May, Judged, Lights, Stacked, Behind}
 
 -- ---- answers
 
@@ -76,23 +79,6 @@ same-term {P} {W} {D} {D₁} {i} {z} {a} {t} b tb p d g =
     ∙ inj P tb.nodes tb.apart o.word k.word o.ok k.ok (o.says ∙ ap (λ (v : Term). v ∷ []) e ∙ sym k.says)
     ∙ sym (units k))
 
--- ---- a letter in a list, from a place on
-
-module _ (m i : ℕ) (xs : List ℕ) where
-  at_place : i < length xs → has m (drop i xs) ≡ (eqb m (get_or xs i 0) || has m (drop (i + 1) xs))
-  unfolding has
-  at_place h = rw (drop-cons xs i 0 h, add-one i)
-
-  pub has-at : i < length xs → m ≡ get_or xs i 0 → has m (drop i xs) ≡ true
-  has-at h e = at_place h ∙ rw (eq-eqb m (get_or xs i 0) e)
-
-  pub has-past : i < length xs → (m ≡ get_or xs i 0 → ⊥) → has m (drop i xs) ≡ has m (drop (i + 1) xs)
-  has-past h d = at_place h ∙ rw (ne_eqb m (get_or xs i 0) d)
-
-  pub has-none : length xs ≤ i → has m (drop i xs) ≡ false
-  unfolding has
-  has-none h = rw (drop_of_length-le xs {i = i} h)
-
 -- ---- the weights of nodes
 
 module _ {P vs : List ℕ} (w : Weighted P vs) (j : ℕ) (h : j < count P) where
@@ -104,13 +90,46 @@ module _ {P vs : List ℕ} (w : Weighted P vs) (j : ℕ) (h : j < count P) where
   unfolding node_weight
   intr-weight k = w.weights j h ∙ rw (lt-leb (kind P j) 5 k)
 
+-- ---- the stack
+
+pub lights-hd : (ts : List Term) → Lights ts → weight (hd ts) ≤ 96
+unfolding Lights weight
+lights-hd [] l = omega arith
+lights-hd (t ∷ ts) l = l.0
+
+pub lights-drop : (k : ℕ) (ts : List Term) → Lights ts → Lights (drop k ts)
+unfolding Lights
+lights-drop zero ts l = l
+lights-drop (suc k) [] l = tt
+lights-drop (suc k) (t ∷ ts) l = lights-drop k ts l.1
+
+-- the number a that is taken from the stack, which leaves ys, is the weight of the first term
+pub record Popped (ts : List Term) (ys : List ℕ) (a : ℕ) : Type 0 where
+  pub deep : 1 ≤ length ts
+  pub weighs : a ≡ weight (hd ts)
+  pub small : a ≤ 96
+  pub light : Lights (drop 1 ts)
+  pub stacked : Stacked ys (drop 1 ts)
+
+pub popped : {ts : List Term} {xs ys : List ℕ} {a : ℕ} → Lights ts → Stacked xs ts → xs ≡ ys ++ a ∷ [] → Popped ts ys a
+popped {ts} {xs} {ys} {a} l s e = go ts l (sym (ap reverse e ∙ reverse-append ys (a ∷ [])) ∙ s)
+  where
+    go : (us : List Term) → Lights us → a ∷ reverse ys ≡ map weight us → Popped us ys a
+    go [] h q = clash cc
+    go (u ∷ us) h q = let w : a ≡ weight u = cc in record { deep = omega arith; weighs = w; small = omega (arith, w, lights-hd (u ∷ us) h); light = lights-drop 1 (u ∷ us) h; stacked = cc }
+
+pub behind-src : {P W : List ℕ} {i : ℕ} {xs : List ℕ} → Behind P W i xs → 1 ≤ length (terms P (drop (i + 1) W)) → Src P W (i + 1)
+behind-src b d = record { right = b.right; deep = d }
+
+-- where there is none, no term is there
+pub empty : (ts : List Term) (xs : List ℕ) → Stacked xs ts → (0 < length xs → false ≡ true) → length ts ≡ 0
+empty ts xs s n = by-lt 0 (length xs) (λ h. let e = n h in clash cc) (λ h. omega (arith, length-reverse xs, ap length s, length-map ts weight))
+
+pub some-or : {A : Type 0} (r : Option ℕ) → A → OnSome r A
+some-or None a = tt
+some-or (Some v) a = a
+
 -- ---- a unit's judgement
-
-abbrev own : List ℕ → ℕ → Bool
-own ms u = ltb u 770 || has (u - 770) ms
-
-other-own : (ms : List ℕ) (u : ℕ) → u < 770 → T (own ms u)
-other-own ms u h = rw (lt-ltb u 770 h) tt
 
 -- a unit wants its parts
 pub fine-deep : (P : List ℕ) (m : Mark) (ts : List Term) → Fine P m ts → arity m ≤ length ts
@@ -124,108 +143,64 @@ fine-deep P u_par ts f = f
 fine-deep P (u_mod a) ts f = omega arith
 
 module _ {P ms : List ℕ} {ts : List Term} where
-  judged : (u r : ℕ) (m : Mark) → mark u ≡ m → Fine P m ts → T (own ms u) → r ≡ weight (hd (apply P m ts)) → Judged P ms u ts r
-  judged u r m e f o q =
-      let g : Fine P (mark u) ts = rw e f in
-      let s : r ≡ weight (hd (apply P (mark u) ts)) = rw e q in
-      record {
-        stands = λ l. (record { fine = g; own = o; light = omega arith }, s);
-        falls = λ l y. let z = y.light in omega arith;
-      }
+  judged : (m : Mark) (v : ℕ) → Fine P m ts → ((a : ℕ) → m ≡ u_mod a → T (has a ms)) → v ≡ weight (hd (apply P m ts)) → Judged P ms m ts (Some v)
+  judged m v f o e = (record { fine = f; own = o }, e)
 
-  pub refused : (u : ℕ) → (Fine P (mark u) ts → ⊥) → Judged P ms u ts 97
-  refused u n = record { stands = λ l. absurd (omega arith); falls = λ l y. n y.fine }
-
-  pub as-unit : {u v r : ℕ} → v ≡ u → Judged P ms v ts r → Judged P ms u ts r
-  as-unit {u} {v} {r} e j = subst (λ (x : ℕ). Judged P ms x ts r) e j
-
-  -- ---- a sequence
-
-  pub seq-not : (y : ℕ) → y < 192 → count P ≤ y → Judged P ms y ts 97
-  unfolding Fine
-  seq-not y l h = refused y (λ f. let g : Fine P (u_seq y) ts = rw (mark-seq y l) at f in let z = g.1.0 in omega arith)
-
-  pub seq-kind : (y : ℕ) → y < 192 → 5 < kind P y → Judged P ms y ts 97
-  unfolding Fine
-  seq-kind y l h = refused y (λ f. let g : Fine P (u_seq y) ts = rw (mark-seq y l) at f in let z = g.1.1 in omega arith)
-
-  pub seq-is : {vs : List ℕ} (y a r : ℕ) → Weighted P vs → y < 192 → y < count P → kind P y ≤ 5 → 1 ≤ length ts → a ≡ weight (hd ts)
-      → r ≡ max (max 1 a + 1) (get_or vs y 0) → Judged P ms y ts r
+  pub seq-is : {vs : List ℕ} (y a r : ℕ) → Weighted P vs → y < count P → kind P y ≤ 5 → 1 ≤ length ts → a ≡ weight (hd ts)
+      → r ≡ max (max a 1 + 1) (get_or vs y 0) → Judged P ms (u_seq y) ts (Some r)
   unfolding Fine apply weight
-  seq-is y a r w l h k d e q =
-      judged y r (u_seq y) (mark-seq y l) (d, (h, k)) (other-own ms y (omega arith)) (omega (arith, term-weight w y h k))
+  seq-is y a r w h k d e q = judged (u_seq y) r (d, (h, k)) (λ x z. clash cc) (omega (arith, term-weight w y h k))
 
-  -- ---- a star
-
-  pub star-not : (j : ℕ) → j < 192 → (Fine P (u_star j) ts → ⊥) → Judged P ms (192 + j) ts 97
-  star-not j l n =
-      let z : 192 + j - 192 ≡ j = omega arith in
-      refused (192 + j) (λ f. n (rw (mark-star (192 + j) (omega arith) (omega arith), z) at f))
-
-  pub star-is : (j a r : ℕ) → j < 192 → j < count P → kind P j ≡ 4 → 1 ≤ length ts → a ≡ weight (hd ts) → hd ts ≡ tree P (left P j)
-      → r ≡ max 1 a + 1 → Judged P ms (192 + j) ts r
+  pub star-is : (j a r : ℕ) → j < count P → kind P j ≡ 4 → 1 ≤ length ts → a ≡ weight (hd ts) → hd ts ≡ tree P (left P j)
+      → r ≡ max a 1 + 1 → Judged P ms (u_star j) ts (Some r)
   unfolding Fine apply weight
-  star-is j a r l h k d e t q =
-      let z : 192 + j - 192 ≡ j = omega arith in
-      judged (192 + j) r (u_star j) (mark-star (192 + j) (omega arith) (omega arith) ∙ ap u_star z) (d, (h, (k, t))) (other-own ms (192 + j) (omega arith)) (omega arith)
+  star-is j a r h k d e t q = judged (u_star j) r (d, (h, (k, t))) (λ x z. clash cc) (omega arith)
 
-  -- ---- `/`
-
-  pub act-not : (j : ℕ) → j < 192 → (Fine P (u_act j) ts → ⊥) → Judged P ms (384 + j) ts 97
-  act-not j l n =
-      let z : 384 + j - 384 ≡ j = omega arith in
-      refused (384 + j) (λ f. n (rw (mark-act (384 + j) (omega arith) (omega arith), z) at f))
-
-  pub act-is : {vs : List ℕ} (j a r : ℕ) → Weighted P vs → j < 192 → j < count P → 5 < kind P j → 1 ≤ length ts → a ≡ weight (hd ts) → (hd ts ≡ One → ⊥)
-      → r ≡ max (a + 1) (get_or vs j 0) → Judged P ms (384 + j) ts r
+  pub act-is : {vs : List ℕ} (j a r : ℕ) → Weighted P vs → j < count P → 5 < kind P j → 1 ≤ length ts → a ≡ weight (hd ts) → (hd ts ≡ One → ⊥)
+      → r ≡ max (a + 1) (get_or vs j 0) → Judged P ms (u_act j) ts (Some r)
   unfolding Fine apply weight
-  act-is j a r w l h k d e o q =
-      let z : 384 + j - 384 ≡ j = omega arith in
-      judged (384 + j) r (u_act j) (mark-act (384 + j) (omega arith) (omega arith) ∙ ap u_act z) (d, (h, (k, o))) (other-own ms (384 + j) (omega arith)) (omega (arith, intr-weight w j h k))
+  act-is j a r w h k d e o q = judged (u_act j) r (d, (h, (k, o))) (λ x z. clash cc) (omega (arith, intr-weight w j h k))
 
-  pub wait-not : (j : ℕ) → j < 192 → (Fine P (u_wait j) ts → ⊥) → Judged P ms (576 + j) ts 97
-  wait-not j l n =
-      let z : 576 + j - 576 ≡ j = omega arith in
-      refused (576 + j) (λ f. n (rw (mark-wait (576 + j) (omega arith) (omega arith), z) at f))
-
-  pub wait-is : {vs : List ℕ} (j r : ℕ) → Weighted P vs → j < 192 → j < count P → 5 < kind P j → r ≡ max 1 (get_or vs j 0) → Judged P ms (576 + j) ts r
+  pub wait-is : {vs : List ℕ} (j r : ℕ) → Weighted P vs → j < count P → 5 < kind P j → r ≡ max (get_or vs j 0) 1 → Judged P ms (u_wait j) ts (Some r)
   unfolding Fine apply weight
-  wait-is j r w l h k q =
-      let z : 576 + j - 576 ≡ j = omega arith in
-      judged (576 + j) r (u_wait j) (mark-wait (576 + j) (omega arith) (omega arith) ∙ ap u_wait z) (h, k) (other-own ms (576 + j) (omega arith)) (omega (arith, intr-weight w j h k))
+  wait-is j r w h k q = judged (u_wait j) r (h, k) (λ x z. clash cc) (omega (arith, intr-weight w j h k))
 
-  -- ---- the others
-
-  pub one-is : (u : ℕ) → u ≡ 768 → Judged P ms u ts 0
+  pub one-is : Judged P ms u_one ts (Some 0)
   unfolding Fine apply weight
-  one-is u e = judged u 0 u_one (ap mark e ∙ mark-one) tt (other-own ms u (omega arith)) refl
+  one-is = judged u_one 0 tt (λ x z. clash cc) refl
 
-  pub par-is : (u a b r : ℕ) → u ≡ 769 → 2 ≤ length ts → a ≡ weight (hd ts) → b ≡ weight (hd (tl ts)) → r ≡ max 1 a + max 1 b + 1 → Judged P ms u ts r
+  pub par-is : (a b r : ℕ) → 2 ≤ length ts → a ≡ weight (hd ts) → b ≡ weight (hd (drop 1 ts)) → r ≡ max a 1 + max b 1 + 1 → Judged P ms u_par ts (Some r)
   unfolding Fine apply weight
-  par-is u a b r e d f s q = judged u r u_par (ap mark e ∙ mark-par) d (other-own ms u (omega arith)) (omega arith)
+  par-is a b r d f s q = judged u_par r d (λ x z. clash cc) (omega (arith, ap (λ (us : List Term). weight (hd us)) (drop-one ts)))
 
-  pub module-is : (u : ℕ) → 770 ≤ u → has (u - 770) ms ≡ true → ((m : ℕ) → T (has m ms) → m < 26) → Judged P ms u ts 1
+  pub module-is : (m : ℕ) → has m ms ≡ true → ((x : ℕ) → T (has x ms) → x < 26) → Judged P ms (u_mod m) ts (Some 1)
   unfolding Fine apply weight
-  module-is u l h small =
-      let t : T (has (u - 770) ms) = rw h tt in
-      judged u 1 (u_mod (u - 770)) (mark-mod u l) (small (u - 770) t) (rw (le-ltb u 770 l) t) refl
+  module-is m h small =
+      let t : T (has m ms) = rw h tt in
+      judged (u_mod m) 1 (small m t) (λ a e. let z : m ≡ a = cc in subst (λ (x : ℕ). T (has x ms)) z t) refl
 
-  pub module-not : (u : ℕ) → 770 ≤ u → has (u - 770) ms ≡ false → Judged P ms u ts 97
-  module-not u l h =
-      record {
-        stands = λ q. absurd (omega arith);
-        falls = λ q y. let t : T (has (u - 770) ms) = rw (le-ltb u 770 l) at y.own in subst T h t;
-      }
+  pub module-not : (m : ℕ) → has m ms ≡ false → Judged P ms (u_mod m) ts None
+  module-not m h y = subst T h (y.own m refl)
 
-  pub shallow : (u n k : ℕ) → n ≡ length ts → k ≡ arity (mark u) → n < k → Judged P ms u ts 97
-  shallow u n k e q h = refused u (λ f. omega (arith, fine-deep P (mark u) ts f))
+  -- too few terms for what the unit says
+  pub shallow : (m k : Mark) → k ≡ m → length ts < arity k → Judged P ms m ts None
+  shallow m k e h y = omega (arith, ap arity e, fine-deep P m ts y.fine)
 
--- `1` is the one unit 768
-pub one_unit : {P W : List ℕ} {i : ℕ} → Src P W i → (top P W i ≡ One) ↔ (get_or W i 0 ≡ 768)
+its_one : (k : Given) → unit_mark k ≡ u_one → k ≡ Skip
+its_one (Sequence j) e = clash cc
+its_one (Star j) e = clash cc
+its_one (Act j) e = clash cc
+its_one (Wait j) e = clash cc
+its_one Skip e = refl
+its_one Par e = clash cc
+its_one (Module m) e = clash cc
+
+-- a word says `1` exactly where its first unit does
+pub one_unit : {P W : List ℕ} {i : ℕ} → Src P W i → (k : Given) → unit_mark k ≡ mark (get_or W i 0) → (top P W i ≡ One) ↔ (k ≡ Skip)
 unfolding apply
-one_unit {P} {W} {i} s = (
-  λ e. mark-one-only (get_or W i 0) (says-one P (mark (get_or W i 0)) (terms P (drop (i + 1) W)) (sym (ap hd (src-terms P W i s)) ∙ e)),
-  λ e. ap hd (src-terms P W i s) ∙ rw (ap mark e ∙ mark-one),
+one_unit {P} {W} {i} s k q = (
+  λ e. its_one k (q ∙ says-one P (mark (get_or W i 0)) (terms P (drop (i + 1) W)) (sym (ap hd (src-terms P W i s)) ∙ e)),
+  λ e. ap hd (src-terms P W i s) ∙ rw (sym q ∙ ap unit_mark e),
 )
 
 -- what a starred node's part asks to be written
@@ -242,10 +217,3 @@ star-heavy {P} {vs} {a} j ts w n e f =
     let t = w.table.nodes.of_star j f.1.0 f.1.1.0 in
     n (term-weight w (left P j) d t ∙ sym (e ∙ ap weight f.1.1.1))
 
-pub part_of : {P W : List ℕ} {i a b n : ℕ} → Behind P W i a b n → 1 ≤ n → Part P W i a
-part_of k h = record {
-  src = record { right = k.right; deep = omega (arith, k.many) };
-  long = k.long;
-  weighs = k.first;
-  light = k.light.0;
-}

@@ -1,69 +1,25 @@
 // Whether a word of units is a state's: one pass from its end, with the weights of the terms that are there so far.
-// What a unit weighs is answered as a number, and 97 stands for a unit that may not stand where it does.
+// What a unit weighs is answered as an Option: none for a unit that may not stand where it does.
 #![tactic(auto)]
 
-ghost use Rattle.std.specs.Prelude.{◌≡◌, List, ℕ, ◌+◌, ◌-◌, ◌≤◌, ◌<◌, max, length, drop, get_or};
+ghost use Rattle.std.specs.Prelude.{◌≡◌, List, ℕ, ◌+◌, ◌≤◌, ◌<◌, ◌↔◌, OnSome, length, drop, get_or};
 ghost use Rattle.paper.specs.Lists.{has};
+ghost use Rattle.paper.specs.Term.{Term, One};
 ghost use Rattle.laws.specs.Nodes.{tree};
 ghost use Rattle.laws.specs.Weight.{weight};
-ghost use Rattle.words.specs.Word.{mark, arity, terms};
+ghost use Rattle.words.specs.Word.{u_seq, u_star, u_act, u_wait, mark, arity, hd, terms};
 ghost use Rattle.words.specs.Pieces.{Asks, Src, top};
-ghost use Rattle.walk.specs.Judging.{Tells, Weighted, Known, Sound, Judged, WaitJudged, JoinJudged, ActJudged, Part, Behind};
+ghost use Rattle.walk.specs.Judging.{Tells, Weighted, Known, Sound, Judged, Stacked, Behind};
 
+use arrayvec::ArrayVec;
 use program::Node;
-
-fn wide(x: u8) -> usize
-    ensures { result ≡ x }
-{
-    x as usize
-}
-
-// A term's word has at least one unit.
-fn room(a: usize) -> usize
-    ensures { result ≡ max 1 a }
-{
-    if a == 0 { 1 } else { a }
-}
-
-fn greater(a: usize, b: usize) -> usize
-    ensures { result ≡ max a b }
-{
-    if a < b { b } else { a }
-}
-
-// How many terms a unit takes.
-fn parts(unit: usize) -> usize
-    ensures { result ≡ arity (mark unit) }
-{
-    if unit < 576 {
-        1
-    } else if unit == 769 {
-        2
-    } else {
-        0
-    }
-}
-
-// The weight at a place of the stack, 0 behind its end.
-fn at(stack: &[usize; 96], d: usize) -> usize
-    requires { length stack.now ≡ 96 }
-    ensures { result ≡ get_or stack.now d 0 }
-{
-    if d < 96 { stack[d] } else { 0 }
-}
+use words::Unit;
 
 // Whether m is one of the modules.
 fn is_module(modules: &[u8], m: usize) -> bool
     ensures { result ≡ has m modules.now }
 {
-    let mut i = 0;
-    while i < modules.len() {
-        if m == wide(modules[i]) {
-            return true;
-        }
-        i += 1;
-    }
-    false
+    modules.iter().any(|&name| usize::from(name) == m)
 }
 
 // Whether the term whose word starts at i is that of node j, which is written into tmp to be compared.
@@ -77,17 +33,15 @@ fn is_node(p: &[u8], j: usize, w: &[usize], i: usize, tmp: &mut [usize]) -> bool
 }
 
 // A term that weighs a, followed by node y.
-fn weigh_seq(p: &[u8], weights: &[u8], y: usize, a: usize) -> usize
+fn weigh_seq(p: &[u8], weights: &[u8], y: usize, a: usize) -> Option<usize>
     requires { Weighted p.now weights.now × ((y < 192) × (a ≤ 96)) }
-    ensures { JoinJudged p.now y a result }
+    ensures { (ms : List ℕ) (ts : List Term) → 1 ≤ length ts → a ≡ weight (hd ts) → Judged p.now ms (u_seq y) ts result }
 {
-    if words::count(p) <= y {
-        return 97;
+    if y < words::count(p) && words::node(p, y).is_term() {
+        Some((a.max(1) + 1).max(usize::from(weights[y])))
+    } else {
+        None
     }
-    if !words::node(p, y).is_term() {
-        return 97;
-    }
-    greater(room(a) + 1, wide(weights[y]))
 }
 
 // The starred node j before a part that weighs a and starts at i.
@@ -99,75 +53,50 @@ fn weigh_star(
     i: usize,
     tmp: &mut [usize],
     a: usize,
-) -> usize
+) -> Option<usize>
     requires { Weighted p.now weights.now × ((j < 192) × ((a ≤ 96) × (Src p.now w.now i × ((length w.now ≡ 96) × ((length tmp.old ≡ 96) × (a ≡ weight (top p.now w.now i))))))) }
-    ensures { (ms : List ℕ) → Judged p.now ms (192 + j) (terms p.now (drop i w.now)) result }
+    ensures { (ms : List ℕ) → Judged p.now ms (u_star j) (terms p.now (drop i w.now)) result }
 {
     if words::count(p) <= j {
-        return 97;
+        return None;
     }
     let Node::Star(part) = words::node(p, j) else {
-        return 97;
+        return None;
     };
     let part = usize::from(part);
-    if wide(weights[part]) != a {
-        return 97;
-    }
-    if is_node(p, part, w, i, tmp) {
-        room(a) + 1
+    if usize::from(weights[part]) == a && is_node(p, part, w, i, tmp) {
+        Some(a.max(1) + 1)
     } else {
-        97
+        None
     }
 }
 
-// A term that weighs a and whose word starts with the unit next, with the interruption j. `1` is never such a term: its unit is Wait.
+// A term that weighs a, whose word starts with the unit `next`, with the interruption j. `1` is never such a term: its unit is Wait.
 // Ruled out (must-fail/): `1` there.
-fn weigh_act(p: &[u8], weights: &[u8], j: usize, next: usize, a: usize) -> usize
+fn weigh_act(p: &[u8], weights: &[u8], j: usize, a: usize, next: Unit) -> Option<usize>
     requires { Weighted p.now weights.now × ((j < 192) × (a ≤ 96)) }
-    ensures { ActJudged p.now (384 + j) next a result }
+    ensures { (ms : List ℕ) (ts : List Term) → 1 ≤ length ts → a ≡ weight (hd ts) → (hd ts ≡ One) ↔ (next ≡ Unit.One) → Judged p.now ms (u_act j) ts result }
 {
-    if words::count(p) <= j {
-        return 97;
+    if j < words::count(p) && !words::node(p, j).is_term() && next != Unit::One {
+        Some((a + 1).max(usize::from(weights[j])))
+    } else {
+        None
     }
-    if words::node(p, j).is_term() {
-        return 97;
-    }
-    if next == 768 {
-        return 97;
-    }
-    greater(a + 1, wide(weights[j]))
 }
 
 // `1` with the interruption j.
-fn weigh_wait(p: &[u8], weights: &[u8], j: usize) -> usize
+fn weigh_wait(p: &[u8], weights: &[u8], j: usize) -> Option<usize>
     requires { Weighted p.now weights.now × (j < 192) }
-    ensures { WaitJudged p.now (576 + j) result }
+    ensures { (ms : List ℕ) (ts : List Term) → Judged p.now ms (u_wait j) ts result }
 {
-    if words::count(p) <= j {
-        return 97;
-    }
-    if words::node(p, j).is_term() {
-        return 97;
-    }
-    room(wide(weights[j]))
-}
-
-// A unit with one part, which weighs a.
-fn weigh_join(p: &[u8], weights: &[u8], w: &[usize], i: usize, tmp: &mut [usize], a: usize) -> usize
-    requires { Weighted p.now weights.now × ((length tmp.old ≡ 96) × ((get_or w.now i 0 < 576) × Part p.now w.now i a)) }
-    ensures { (ms : List ℕ) → Judged p.now ms (get_or w.now i 0) (terms p.now (drop (i + 1) w.now)) result }
-{
-    let unit = w[i];
-    if unit < 192 {
-        weigh_seq(p, weights, unit, a)
-    } else if unit < 384 {
-        weigh_star(p, weights, unit - 192, w, i + 1, tmp, a)
+    if j < words::count(p) && !words::node(p, j).is_term() {
+        Some(usize::from(weights[j]).max(1))
     } else {
-        weigh_act(p, weights, unit - 384, w[i + 1], a)
+        None
     }
 }
 
-// What the unit at place i makes of the n terms behind it, of which the first two weigh a and b.
+// What the unit at place i weighs with its parts, whose weights it takes from the stack.
 fn weigh_unit(
     p: &[u8],
     weights: &[u8],
@@ -175,28 +104,20 @@ fn weigh_unit(
     w: &[usize],
     i: usize,
     tmp: &mut [usize],
-    a: usize,
-    b: usize,
-    n: usize,
-) -> usize
-    requires { Known p.now weights.now modules.now × ((length tmp.old ≡ 96) × Behind p.now w.now i a b n) }
-    ensures { Judged p.now modules.now (get_or w.now i 0) (terms p.now (drop (i + 1) w.now)) result }
+    stack: &mut ArrayVec<usize, 96>,
+) -> Option<usize>
+    requires { Known p.now weights.now modules.now × ((length tmp.old ≡ 96) × Behind p.now w.now i stack.old.items) }
+    ensures judged { Judged p.now modules.now (mark (get_or w.now i 0)) (terms p.now (drop (i + 1) w.now)) result }
+    ensures taken { OnSome result (Stacked stack.new.items (drop (arity (mark (get_or w.now i 0))) (terms p.now (drop (i + 1) w.now)))) }
 {
-    let unit = w[i];
-    if n < parts(unit) {
-        97
-    } else if unit < 576 {
-        weigh_join(p, weights, w, i, tmp, a)
-    } else if unit < 768 {
-        weigh_wait(p, weights, unit - 576)
-    } else if unit == 768 {
-        0
-    } else if unit == 769 {
-        room(a) + room(b) + 1
-    } else if is_module(modules, unit - 770) {
-        1
-    } else {
-        97
+    match Unit::of(w[i]) {
+        Unit::Sequence(y) => weigh_seq(p, weights, y, stack.pop()?),
+        Unit::Star(j) => weigh_star(p, weights, j, w, i + 1, tmp, stack.pop()?),
+        Unit::Act(j) => weigh_act(p, weights, j, stack.pop()?, Unit::of(w[i + 1])),
+        Unit::Wait(j) => weigh_wait(p, weights, j),
+        Unit::One => Some(0),
+        Unit::Par => Some(stack.pop()?.max(1) + stack.pop()?.max(1) + 1),
+        Unit::Module(m) => is_module(modules, m).then_some(1),
     }
 }
 
@@ -213,19 +134,15 @@ pub fn walk(
     requires { Known p.now weights.now modules.now × ((length w.now ≡ 96) × ((length tmp.old ≡ 96) × (s ≤ 96))) }
     ensures { Tells result (Sound p.now modules.now (drop s w.now) × (length (terms p.now (drop s w.now)) ≤ 1)) }
 {
-    let mut stack = [0usize; 96];
-    let mut d = 96;
-    let mut i = 96;
-    while s < i {
-        i -= 1;
-        let a = at(&stack, d);
-        let b = at(&stack, d + 1);
-        let r = weigh_unit(p, weights, modules, w, i, tmp, a, b, 96 - d);
-        if 96 < r {
+    let mut stack: ArrayVec<usize, 96> = ArrayVec::new();
+    for i in (s..96).rev() {
+        let Some(weight) = weigh_unit(p, weights, modules, w, i, tmp, &mut stack) else {
+            return false;
+        };
+        if 96 < weight {
             return false;
         }
-        d = d + parts(w[i]) - 1;
-        stack[d] = r;
+        stack.push(weight);
     }
-    95 <= d
+    stack.len() <= 1
 }

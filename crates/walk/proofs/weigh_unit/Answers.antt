@@ -1,46 +1,94 @@
--- `walk::weigh_unit` meets its contract. By the unit's range.
+-- `walk::weigh_unit` meets its contract. By the unit: what it takes from the stack are the weights of its parts (`popped`).
 -- Assumes nothing.
-use Rattle.walk.proofs.Units.{part_of, shallow, as-unit, one-is, par-is, module-is, module-not}
-use native.Mathlib.Omega.{arith}
-use mathlib.Core.Path.{◌∙◌, sym}
-use Rattle.words.proofs.Reading.{unary, binary}
+use Rattle.std.proofs.Common.{◌+◌, map, drop, sym, ap, ◌∙◌, arith, length-drop}
+use lib.Seq.{drop-drop}
+use Rattle.laws.specs.Weight.{weight}
+use Rattle.words.specs.Word.{terms}
+use Rattle.words.proofs.Reading.{in_src}
+use Rattle.walk.proofs.Units.{empty, popped, some-or, behind-src, shallow, one-is, par-is, module-is, module-not, one_unit}
 use Rattle.walk.proofs.weigh_unit.Goals as goal
 
-pub offset_bounds-w-i : goal.offset_bounds-w-i
-offset_bounds-w-i c = omega (arith, c.requires.1.1.here, c.requires.1.1.long)
+pub returns-in_err-pop-in-Sequence-clause-judged : goal.returns-in_err-pop-in-Sequence-clause-judged
+returns-in_err-pop-in-Sequence-clause-judged c = rw c.from_residual.ensures (shallow _ _ c.in-Sequence.ensures.says (omega (arith, empty _ _ c.requires.1.1.stacked c.in_err-pop-in-Sequence.ensures.variant.1)))
 
-pub bounds-w-i : goal.bounds-w-i
-bounds-w-i c = omega (arith, c.requires.1.1.here, c.requires.1.1.long)
+pub weigh_seq-requires : goal.weigh_seq-requires
+weigh_seq-requires c = (c.requires.0.0, (c.in-Sequence.ensures.node, (popped c.requires.1.1.light c.requires.1.1.stacked c.in_ok-pop-in-Sequence.ensures.items).small))
 
-pub weigh_join-requires : goal.weigh_join-requires
-weigh_join-requires c = (c.requires.0.0, (c.requires.1.0, (c.if-unit-lt576.true, part_of c.requires.1.1 (omega (arith, c.if-n-parts.false, c.parts.ensures, unary _ c.if-unit-lt576.true)))))
+pub returns-in_ok-pop-in-Sequence-clause-judged : goal.returns-in_ok-pop-in-Sequence-clause-judged
+returns-in_ok-pop-in-Sequence-clause-judged c =
+    let t = popped c.requires.1.1.light c.requires.1.1.stacked c.in_ok-pop-in-Sequence.ensures.items in
+    rw (← c.in-Sequence.ensures.says) (c.weigh_seq.ensures _ _ t.deep t.weighs)
 
-pub weigh_wait-requires : goal.weigh_wait-requires
-weigh_wait-requires c = (c.requires.0.0, omega arith)
+pub returns-in_ok-pop-in-Sequence-clause-taken : goal.returns-in_ok-pop-in-Sequence-clause-taken
+returns-in_ok-pop-in-Sequence-clause-taken c = rw (← c.in-Sequence.ensures.says) (some-or _ (popped c.requires.1.1.light c.requires.1.1.stacked c.in_ok-pop-in-Sequence.ensures.items).stacked)
+
+pub returns-in_err-pop-in-Star-clause-judged : goal.returns-in_err-pop-in-Star-clause-judged
+returns-in_err-pop-in-Star-clause-judged c = rw c.from_residual-in_err-pop-in-Star.ensures (shallow _ _ c.in-Star.ensures.says (omega (arith, empty _ _ c.requires.1.1.stacked c.in_err-pop-in-Star.ensures.variant.1)))
+
+pub weigh_star-requires : goal.weigh_star-requires
+weigh_star-requires c =
+    let t = popped c.requires.1.1.light c.requires.1.1.stacked c.in_ok-pop-in-Star.ensures.items in
+    (c.requires.0.0, (c.in-Star.ensures.node, (t.small, (behind-src c.requires.1.1 t.deep, (c.requires.1.1.long, (c.requires.1.0, t.weighs))))))
+
+pub returns-in_ok-pop-in-Star-clause-taken : goal.returns-in_ok-pop-in-Star-clause-taken
+returns-in_ok-pop-in-Star-clause-taken c = rw (← c.in-Star.ensures.says) (some-or _ (popped c.requires.1.1.light c.requires.1.1.stacked c.in_ok-pop-in-Star.ensures.items).stacked)
+
+pub returns-in_err-pop-in-Act-clause-judged : goal.returns-in_err-pop-in-Act-clause-judged
+returns-in_err-pop-in-Act-clause-judged c = rw c.from_residual-in_err-pop-in-Act.ensures (shallow _ _ c.in-Act.ensures.says (omega (arith, empty _ _ c.requires.1.1.stacked c.in_err-pop-in-Act.ensures.variant.1)))
+
+pub bounds-w-i-in-Act : goal.bounds-w-i-in-Act
+bounds-w-i-in-Act c =
+    let t = popped c.requires.1.1.light c.requires.1.1.stacked c.in_ok-pop-in-Act.ensures.items in
+    in_src _ _ _ (behind-src c.requires.1.1 t.deep)
+
+pub weigh_act-requires : goal.weigh_act-requires
+weigh_act-requires c = (c.requires.0.0, (c.in-Act.ensures.node, (popped c.requires.1.1.light c.requires.1.1.stacked c.in_ok-pop-in-Act.ensures.items).small))
+
+pub returns-in_ok-pop-in-Act-clause-judged : goal.returns-in_ok-pop-in-Act-clause-judged
+returns-in_ok-pop-in-Act-clause-judged c =
+    let t = popped c.requires.1.1.light c.requires.1.1.stacked c.in_ok-pop-in-Act.ensures.items in
+    rw (← c.in-Act.ensures.says) (c.weigh_act.ensures _ _ t.deep t.weighs (one_unit (behind-src c.requires.1.1 t.deep) c.of-in-Act.result c.of-in-Act.ensures.says))
+
+pub returns-in_ok-pop-in-Act-clause-taken : goal.returns-in_ok-pop-in-Act-clause-taken
+returns-in_ok-pop-in-Act-clause-taken c = rw (← c.in-Act.ensures.says) (some-or _ (popped c.requires.1.1.light c.requires.1.1.stacked c.in_ok-pop-in-Act.ensures.items).stacked)
+
+pub returns-in-One-clause-judged : goal.returns-in-One-clause-judged
+returns-in-One-clause-judged c = rw (← c.in-One.ensures.says) one-is
+
+pub returns-in_err-pop-in-Par-clause-judged : goal.returns-in_err-pop-in-Par-clause-judged
+returns-in_err-pop-in-Par-clause-judged c = rw c.from_residual-in_err-pop-in-Par.ensures (shallow _ _ c.in-Par.ensures.says (omega (arith, empty _ _ c.requires.1.1.stacked c.in_err-pop-in-Par.ensures.variant.1)))
+
+pub returns-in_err-pop-in-Par-2-clause-judged : goal.returns-in_err-pop-in-Par-2-clause-judged
+returns-in_err-pop-in-Par-2-clause-judged c =
+    let t = popped c.requires.1.1.light c.requires.1.1.stacked c.in_ok-pop-in-Par.ensures.items in
+    rw c.from_residual-in_err-pop-in-Par-2.ensures (shallow _ _ c.in-Par.ensures.says (omega (arith, empty _ _ t.stacked c.in_err-pop-in-Par-2.ensures.variant.1, length-drop 1 (terms c.args.p.now (drop (c.args.i + 1) c.args.w.now)))))
 
 pub overflow_add-result : goal.overflow_add-result
-overflow_add-result c = omega (arith, c.room.ensures, c.room-then-unit-eq769.ensures, c.requires.1.1.light)
+overflow_add-result c =
+    let t = popped c.requires.1.1.light c.requires.1.1.stacked c.in_ok-pop-in-Par.ensures.items in
+    let u = popped t.light t.stacked c.in_ok-pop-in-Par-2.ensures.items in
+    omega (arith, t.small, u.small, c.max.ensures, c.max-in-Par.ensures)
 
-pub overflow_add-result-then-unit-eq769 : goal.overflow_add-result-then-unit-eq769
-overflow_add-result-then-unit-eq769 c = omega (arith, c.room.ensures, c.room-then-unit-eq769.ensures, c.requires.1.1.light)
+pub overflow_add-result-in-Par : goal.overflow_add-result-in-Par
+overflow_add-result-in-Par c =
+    let t = popped c.requires.1.1.light c.requires.1.1.stacked c.in_ok-pop-in-Par.ensures.items in
+    let u = popped t.light t.stacked c.in_ok-pop-in-Par-2.ensures.items in
+    omega (arith, t.small, u.small, c.max.ensures, c.max-in-Par.ensures)
 
-pub returns-then-n-parts : goal.returns-then-n-parts
-returns-then-n-parts c = shallow _ _ _ c.requires.1.1.many c.parts.ensures c.if-n-parts.true
+pub returns-in_ok-pop-in-Par-2-clause-judged : goal.returns-in_ok-pop-in-Par-2-clause-judged
+returns-in_ok-pop-in-Par-2-clause-judged c =
+    let t = popped c.requires.1.1.light c.requires.1.1.stacked c.in_ok-pop-in-Par.ensures.items in
+    let u = popped t.light t.stacked c.in_ok-pop-in-Par-2.ensures.items in
+    rw (← c.in-Par.ensures.says) (par-is _ _ _ (omega (arith, t.deep, u.deep, length-drop 1 (terms c.args.p.now (drop (c.args.i + 1) c.args.w.now)))) t.weighs u.weighs (omega (arith, c.max.ensures, c.max-in-Par.ensures)))
 
-pub returns-then-unit-lt576 : goal.returns-then-unit-lt576
-returns-then-unit-lt576 c = c.weigh_join.ensures _
+pub returns-in_ok-pop-in-Par-2-clause-taken : goal.returns-in_ok-pop-in-Par-2-clause-taken
+returns-in_ok-pop-in-Par-2-clause-taken c =
+    let t = popped c.requires.1.1.light c.requires.1.1.stacked c.in_ok-pop-in-Par.ensures.items in
+    let u = popped t.light t.stacked c.in_ok-pop-in-Par-2.ensures.items in
+    rw (← c.in-Par.ensures.says) (u.stacked ∙ ap (map weight) (drop-drop 1 1 (terms c.args.p.now (drop (c.args.i + 1) c.args.w.now))))
 
-pub returns-then-unit-lt768 : goal.returns-then-unit-lt768
-returns-then-unit-lt768 c = as-unit (omega arith) (c.weigh_wait.ensures _ _)
+pub returns-then-is_module-clause-judged : goal.returns-then-is_module-clause-judged
+returns-then-is_module-clause-judged c = rw (← c.in-Module.ensures.says) (module-is _ (sym c.is_module.ensures ∙ c.if-is_module.true) c.requires.0.1)
 
-pub returns-then-unit-eq768 : goal.returns-then-unit-eq768
-returns-then-unit-eq768 c = one-is _ c.if-unit-eq768.true
-
-pub returns-then-unit-eq769 : goal.returns-then-unit-eq769
-returns-then-unit-eq769 c = par-is _ _ _ _ c.if-unit-eq769.true (omega (arith, c.if-n-parts.false, c.parts.ensures, binary _ c.if-unit-eq769.true, c.requires.1.1.many)) c.requires.1.1.first c.requires.1.1.second (omega (arith, c.room.ensures, c.room-then-unit-eq769.ensures))
-
-pub returns-then-is_module : goal.returns-then-is_module
-returns-then-is_module c = module-is _ (omega (arith, c.if-unit-lt768.false, c.if-unit-eq768.false, c.if-unit-eq769.false)) (sym c.is_module.ensures ∙ c.if-is_module.true) c.requires.0.1
-
-pub returns-else-is_module : goal.returns-else-is_module
-returns-else-is_module c = module-not _ (omega (arith, c.if-unit-lt768.false, c.if-unit-eq768.false, c.if-unit-eq769.false)) (sym c.is_module.ensures ∙ c.if-is_module.false)
+pub returns-else-is_module-clause-judged : goal.returns-else-is_module-clause-judged
+returns-else-is_module-clause-judged c = rw (← c.in-Module.ensures.says) (module-not _ (sym c.is_module.ensures ∙ c.if-is_module.false))
