@@ -1,7 +1,8 @@
 -- The parts of a word's terms, unit by unit: each unit adds its own part and those of its node, and takes none away.
 -- Assumes nothing.
-use Prim.Native.Nat.{ℕ, ◌+◌, ◌-◌, ◌≤◌, ◌<◌}
+use Prim.Native.Nat.{ℕ, suc, ◌+◌, ◌≤◌, ◌<◌}
 use mathlib.Core.List.{List, [], ◌∷◌}
+use mathlib.Core.Logic.{◌⊎◌, ⊎_elim}
 use mathlib.Core.Path.{◌≡◌, refl, sym, ap, ◌∙◌}
 use native.Mathlib.Numerals.{add-one}
 use native.Mathlib.Omega.{arith}
@@ -9,46 +10,44 @@ use lib.ListN.{length, drop, get_or, drop_of_length-le}
 use lib.Seq.{drop-cons}
 use Rattle.paper.specs.Term.{Term, parts}
 use Rattle.paper.specs.Refusals.{parts_of}
-use Rattle.laws.specs.Nodes.{kind, count}
+use Rattle.laws.specs.Nodes.{count}
+use Rattle.words.specs.declared.Unit.{Unit as Given}
+use Rattle.words.specs.declared.Unit.TheVariants.{Sequence, Act}
+use Rattle.words.specs.Unit.{unit_mark}
 use Rattle.words.specs.Word.{Mark, u_seq, u_star, u_act, u_wait, u_one, u_par, u_mod, mark, apply, terms, Fine, Right}
 use Rattle.rewrite.specs.Steps.{left_of, state, Stands}
-use Rattle.parts.specs.Parts.{capped, Counted, unit_parts, all_parts, Meant}
+use Rattle.parts.specs.Parts.{capped, node_parts, Counted, unit_parts, all_parts, Meant}
 use Rattle.parts.proofs.Rows.{term-parts, intr-parts}
 
 -- ---- what a unit adds, from the counts of the nodes
+
+unit_node : (P : List ℕ) (j : ℕ) (k : Given) → (k ≡ Sequence j) ⊎ (k ≡ Act j) → Meant P (unit_mark k) → (j < count P) × (suc (node_parts P j) ≡ unit_parts P (unit_mark k))
+unfolding Fine unit_parts
+unit_node P j k e m =
+    ⊎_elim
+    (λ q. let f : Fine P (u_seq j) m.after = rw q at m.fine in rw q (f.1.0, ap suc (term-parts P j f.1.1)))
+    (λ q. let f : Fine P (u_act j) m.after = rw q at m.fine in rw q (f.1.0, ap suc (intr-parts P j f.1.1.0)))
+    e
+
+wait-node : (P : List ℕ) (j : ℕ) → Meant P (u_wait j) → (j < count P) × (suc (suc (node_parts P j)) ≡ unit_parts P (u_wait j))
+unfolding Fine unit_parts
+wait-node P j m = (m.fine.0, ap (λ (n : ℕ). suc (suc n)) (intr-parts P j m.fine.1))
+
 module _ {P ns : List ℕ} {j : ℕ} (t : Counted P ns) where
-  seq_node : Meant P (u_seq j) → (j < count P) × (kind P j ≤ 5)
-  unfolding Fine
-  seq_node m = m.fine.1
+  place : j < count P → (j < 192) × (j < length ns)
+  place h = (omega (arith, t.table.nodes.few), omega (arith, t.places))
 
-  act-node : Meant P (u_act j) → (j < count P) × (5 < kind P j)
-  unfolding Fine
-  act-node m = (m.fine.1.0, m.fine.1.1.0)
+  pub unit_place : (k : Given) → (k ≡ Sequence j) ⊎ (k ≡ Act j) → Meant P (unit_mark k) → (j < 192) × (j < length ns)
+  unit_place k e m = place (unit_node P j k e m).0
 
-  wait-node : Meant P (u_wait j) → (j < count P) × (5 < kind P j)
-  unfolding Fine
-  wait-node m = m.fine
-
-  pub seq-place : Meant P (u_seq j) → (j < 192) × (j < length ns)
-  seq-place m = let h = (seq_node m).0 in (omega (arith, t.table.nodes.few), omega (arith, t.places))
-
-  pub act-place : Meant P (u_act j) → (j < 192) × (j < length ns)
-  act-place m = let h = (act-node m).0 in (omega (arith, t.table.nodes.few), omega (arith, t.places))
+  pub unit_adds : (k : Given) → (k ≡ Sequence j) ⊎ (k ≡ Act j) → Meant P (unit_mark k) → capped (1 + get_or ns j 0) ≡ capped (unit_parts P (unit_mark k))
+  unit_adds k e m = let n = unit_node P j k e m in omega (arith, t.counts j n.0, n.1)
 
   pub wait-place : Meant P (u_wait j) → (j < 192) × (j < length ns)
-  wait-place m = let h = (wait-node m).0 in (omega (arith, t.table.nodes.few), omega (arith, t.places))
-
-  pub seq-adds : Meant P (u_seq j) → capped (1 + get_or ns j 0) ≡ capped (unit_parts P (u_seq j))
-  unfolding unit_parts
-  seq-adds m = let n = seq_node m in omega (arith, t.counts j n.0, term-parts P j n.1)
-
-  pub act-adds : Meant P (u_act j) → capped (1 + get_or ns j 0) ≡ capped (unit_parts P (u_act j))
-  unfolding unit_parts
-  act-adds m = let n = act-node m in omega (arith, t.counts j n.0, intr-parts P j n.1)
+  wait-place m = place (wait-node P j m).0
 
   pub wait-adds : Meant P (u_wait j) → capped (2 + get_or ns j 0) ≡ capped (unit_parts P (u_wait j))
-  unfolding unit_parts
-  wait-adds m = let n = wait-node m in omega (arith, t.counts j n.0, intr-parts P j n.1)
+  wait-adds m = let n = wait-node P j m in omega (arith, t.counts j n.0, n.1)
 
 -- ---- the parts of the terms
 parts-unit : (P : List ℕ) (k : Mark) (st : List Term) → Fine P k st → all_parts (apply P k st) ≡ unit_parts P k + all_parts st

@@ -2,13 +2,15 @@
 // is one too many, so no sum overflows. Nothing is refused here: callers see to the table and the word.
 #![tactic(auto)]
 
-ghost use Rattle.std.specs.Prelude.{◌+◌, ◌≤◌, ◌≡◌, length};
+ghost use Rattle.std.specs.Prelude.{◌+◌, ◌≤◌, ◌<◌, ◌≡◌, length, get_or};
 ghost use Rattle.paper.specs.Refusals.{parts_of};
+ghost use Rattle.program.specs.Rows.{kind_in, left_in, right_in};
 ghost use Rattle.words.specs.Unit.{unit_mark};
 ghost use Rattle.words.specs.Pieces.{Table};
 ghost use Rattle.rewrite.specs.Steps.{state, Stands};
 ghost use Rattle.parts.specs.Parts.{capped, row_parts, Counted, unit_parts, Meant};
 
+use program::Node;
 use words::Unit;
 
 // The sum, or 8,193 where it is more.
@@ -18,16 +20,23 @@ fn plus(a: usize, b: usize) -> usize
     a.saturating_add(b).min(8193)
 }
 
-// The parts of a node of the kind k whose own parts have l and r.
+// The parts of a node, by those of its own parts.
 #[tactic(auto, unfolding(crate::specs::Parts::row_parts))]
-fn row_parts(k: u8, l: usize, r: usize) -> usize
-    ensures { result ≡ capped (row_parts k l r) }
+fn node_parts(node: Node, sizes: &[usize]) -> usize
+    requires { (left_in node < length sizes.now) × (right_in node < length sizes.now) }
+    ensures { result ≡ capped (row_parts (kind_in node) (get_or sizes.now (left_in node) 0) (get_or sizes.now (right_in node) 0)) }
 {
-    match k {
-        2 | 3 | 5 | 8 | 9 => plus(1, plus(l, r)),
-        4 => plus(1, l),
-        7 => plus(2, r),
-        _ => 1,
+    match node {
+        Node::Sequence(left, right)
+        | Node::Par(left, right)
+        | Node::Act(left, right)
+        | Node::Either(left, right)
+        | Node::Both(left, right) => {
+            plus(1, plus(sizes[usize::from(left)], sizes[usize::from(right)]))
+        }
+        Node::Star(part) => plus(1, sizes[usize::from(part)]),
+        Node::Treat(_, then) => plus(2, sizes[usize::from(then)]),
+        Node::Module(_) | Node::One | Node::Event(_) => 1,
     }
 }
 
@@ -37,13 +46,8 @@ pub fn count_parts(nodes: &[u8], sizes: &mut [usize])
     requires { Table nodes.now × (192 ≤ length sizes.old) }
     ensures { Counted nodes.now sizes.new }
 {
-    let count = nodes[576] as usize;
-    let mut i = 0;
-    while i < count {
-        let l = nodes[i + 192] as usize;
-        let r = nodes[i + 384] as usize;
-        sizes[i] = row_parts(nodes[i], sizes[l], sizes[r]);
-        i += 1;
+    for i in 0..words::count(nodes) {
+        sizes[i] = node_parts(words::node(nodes, i), sizes);
     }
 }
 

@@ -38,8 +38,8 @@ use Rattle.coding.proofs.Words.{word_over, over-owns}
 use Rattle.coding.proofs.Standing.{silent, left_word}
 use Rattle.coding.proofs.Fit.{Fit}
 use Rattle.coding.proofs.Coded.{in-complete, code_decode, says, word-short, units_small, said-code, Unused, unused-zero}
-use Rattle.walk.specs.Judging.{Sound}
-use Rattle.walk.proofs.Walked.{Lights, sound-right}
+use Rattle.walk.specs.Judging.{Sound, Lights}
+use Rattle.walk.proofs.Walked.{sound-right}
 use Rattle.unpack.specs.Unpacking.{Of, Shaped, Leads, Limited, Remembers, fresh}
 use Rattle.unpack.proofs.Letters.{ascends-small, ascends-once, has_get_d, fresh-memory, memory-fresh}
 use Rattle.unpack.proofs.Back.{number-back, limit-most, marks-again, events-long, events-at, bytes_back}

@@ -1,15 +1,16 @@
 -- What a unit weighs, by its range: with the part's weight and the node's, or that it may not stand there (`Judging`).
 -- Assumes nothing.
 use Prim.Native.Nat.{ℕ, zero, suc, ◌+◌, ◌-◌, ◌≤◌, ◌<◌, max}
-use mathlib.Core.Bool.{Bool, true, false, ◌||◌}
+use mathlib.Core.Bool.{Bool, true, false}
 use mathlib.Core.List.{List, [], ◌∷◌, ◌++◌, map, reverse}
 use mathlib.Core.Logic.{◌↔◌}
 use mathlib.Core.Path.{◌≡◌, refl, sym, ap, subst, ◌∙◌}
 use native.Mathlib.Omega.{arith}
-use lib.Dec.{T, ltb, leb}
+use lib.Dec.{T, leb}
 use lib.ListN.{length, drop, take, get_or, length-map}
-use borrow.Author.Tests.{lt-ltb, le-ltb, le-leb, lt-leb, leb-true, leb-false}
+use borrow.Author.Tests.{le-leb, lt-leb, leb-true, leb-false}
 use Rattle.std.proofs.Common.{Option, Some, None, OnSome}
+use Rattle.std.specs.Bool.{then_some}
 use Rattle.std.proofs.lemmas.List.{reverse-append, length-reverse}
 use Rattle.paper.specs.Lists.{has}
 use Rattle.paper.specs.Term.{Term, One}
@@ -19,13 +20,13 @@ use Rattle.nodes.specs.Weights.{node_weight}
 use Rattle.words.specs.declared.Unit.{Unit as Given}
 use Rattle.words.specs.declared.Unit.TheVariants.{Sequence, Star, Act, Wait, One as Skip, Par, Module}
 use Rattle.words.specs.Unit.{unit_mark}
-use Rattle.words.specs.Word.{Mark, u_seq, u_star, u_act, u_wait, u_one, u_par, u_mod, mark, arity, hd, tl, apply, terms, Fine}
+use Rattle.words.specs.Word.{Mark, u_seq, u_star, u_act, u_wait, u_one, u_par, u_mod, mark, arity, hd, apply, terms, Fine}
 use Rattle.words.specs.Pieces.{Table, Asks, Drawn, Src, Past, Agree, top}
-use Rattle.words.proofs.Marks.{by-lt, clash, mark-mod, unmark, unmark-mark, says-one}
+use Rattle.words.proofs.Marks.{by-lt, clash, says-one}
 use Rattle.words.proofs.Determined.{inj}
 use Rattle.words.proofs.Joins.{units}
 use Rattle.words.proofs.Reading.{src-terms, drop-one}
-use Rattle.walk.specs.Judging.{Tells, Weighted, Placed, May, Judged, Lights, Stacked, Behind}
+use Rattle.walk.specs.Judging.{Tells, Weighted, Judged, Lights, Stacked, Behind}
 
 -- ---- answers
 
@@ -173,18 +174,22 @@ module _ {P ms : List ℕ} {ts : List Term} where
   unfolding Fine apply weight
   par-is a b r d f s q = judged u_par r d (λ x z. clash cc) (omega (arith, ap (λ (us : List Term). weight (hd us)) (drop-one ts)))
 
-  pub module-is : (m : ℕ) → has m ms ≡ true → ((x : ℕ) → T (has x ms) → x < 26) → Judged P ms (u_mod m) ts (Some 1)
+  module-is : (m : ℕ) → has m ms ≡ true → ((x : ℕ) → T (has x ms) → x < 26) → Judged P ms (u_mod m) ts (Some 1)
   unfolding Fine apply weight
   module-is m h small =
       let t : T (has m ms) = rw h tt in
       judged (u_mod m) 1 (small m t) (λ a e. let z : m ≡ a = cc in subst (λ (x : ℕ). T (has x ms)) z t) refl
 
-  pub module-not : (m : ℕ) → has m ms ≡ false → Judged P ms (u_mod m) ts None
-  module-not m h y = subst T h (y.own m refl)
-
   -- too few terms for what the unit says
   pub shallow : (m k : Mark) → k ≡ m → length ts < arity k → Judged P ms m ts None
   shallow m k e h y = omega (arith, ap arity e, fine-deep P m ts y.fine)
+
+pub module-judged : (P ms : List ℕ) (ts : List Term) (m : ℕ) → ((x : ℕ) → T (has x ms) → x < 26) → Judged P ms (u_mod m) ts (then_some (has m ms) 1)
+module-judged P ms ts m small = go (has m ms) refl
+  where
+    go : (b : Bool) → has m ms ≡ b → Judged P ms (u_mod m) ts (then_some b 1)
+    go true h = module-is m h small
+    go false h = λ y. subst T h (y.own m refl)
 
 its_one : (k : Given) → unit_mark k ≡ u_one → k ≡ Skip
 its_one (Sequence j) e = clash cc
@@ -216,4 +221,3 @@ star-heavy {P} {vs} {a} j ts w n e f =
     let d : left P j < count P = omega (arith, w.table.nodes.lower j, f.1.0) in
     let t = w.table.nodes.of_star j f.1.0 f.1.1.0 in
     n (term-weight w (left P j) d t ∙ sym (e ∙ ap weight f.1.1.1))
-

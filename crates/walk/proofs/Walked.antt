@@ -1,11 +1,10 @@
 -- The pass over a word from its end: from place i on each unit may stand, and the stack has the weights of the terms there (`Walked`).
 -- Assumes nothing.
 use Prim.Native.Nat.{ℕ, zero, suc, ◌+◌, ◌-◌, ◌≤◌, ◌<◌}
-use mathlib.Core.Bool.{◌||◌}
-use mathlib.Core.List.{List, [], ◌∷◌, ◌++◌, map, reverse}
+use mathlib.Core.List.{List, [], ◌∷◌, ◌++◌}
 use mathlib.Core.Path.{◌≡◌, refl, sym, ap, subst, ◌∙◌}
 use native.Mathlib.Omega.{arith}
-use lib.Dec.{T, ltb}
+use lib.Dec.{T}
 use lib.ListN.{length, drop, get_or, length-append, length-drop, length-map, drop_of_length-le}
 use lib.Seq.{drop-cons, drop-drop}
 use borrow.Author.Tests.{lt-ltb, le-ltb}
@@ -18,7 +17,7 @@ use Rattle.words.specs.Word.{Mark, u_seq, u_star, u_act, u_wait, u_one, u_par, u
 use Rattle.words.proofs.Marks.{by-lt, mark-mod, unmark, unmark-mark}
 use Rattle.words.proofs.Reading.{drop-one, drop-two}
 use Rattle.walk.specs.Judging.{Placed, May, Sound, Judged, Lights, Stacked, Behind}
-use Rattle.walk.proofs.Units.{lights-drop, fine-deep}
+use Rattle.walk.proofs.Units.{lights-drop}
 
 -- a unit's term stands in front of those that it does not take
 pub apply-cons : (P : List ℕ) (m : Mark) (ts : List Term) → apply P m ts ≡ hd (apply P m ts) ∷ drop (arity m) ts

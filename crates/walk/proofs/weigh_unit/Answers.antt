@@ -1,11 +1,11 @@
 -- `walk::weigh_unit` meets its contract. By the unit: what it takes from the stack are the weights of its parts (`popped`).
 -- Assumes nothing.
-use Rattle.std.proofs.Common.{◌+◌, map, drop, sym, ap, ◌∙◌, arith, length-drop}
+use Rattle.std.proofs.Common.{◌+◌, map, drop, ap, ◌∙◌, arith, length-drop}
 use lib.Seq.{drop-drop}
 use Rattle.laws.specs.Weight.{weight}
 use Rattle.words.specs.Word.{terms}
 use Rattle.words.proofs.Reading.{in_src}
-use Rattle.walk.proofs.Units.{empty, popped, some-or, behind-src, shallow, one-is, par-is, module-is, module-not, one_unit}
+use Rattle.walk.proofs.Units.{empty, popped, some-or, behind-src, shallow, one-is, par-is, module-judged, one_unit}
 use Rattle.walk.proofs.weigh_unit.Goals as goal
 
 pub returns-in_err-pop-in-Sequence-clause-judged : goal.returns-in_err-pop-in-Sequence-clause-judged
@@ -87,8 +87,5 @@ returns-in_ok-pop-in-Par-2-clause-taken c =
     let u = popped t.light t.stacked c.in_ok-pop-in-Par-2.ensures.items in
     rw (← c.in-Par.ensures.says) (u.stacked ∙ ap (map weight) (drop-drop 1 1 (terms c.args.p.now (drop (c.args.i + 1) c.args.w.now))))
 
-pub returns-then-is_module-clause-judged : goal.returns-then-is_module-clause-judged
-returns-then-is_module-clause-judged c = rw (← c.in-Module.ensures.says) (module-is _ (sym c.is_module.ensures ∙ c.if-is_module.true) c.requires.0.1)
-
-pub returns-else-is_module-clause-judged : goal.returns-else-is_module-clause-judged
-returns-else-is_module-clause-judged c = rw (← c.in-Module.ensures.says) (module-not _ (sym c.is_module.ensures ∙ c.if-is_module.false))
+pub returns-in-Module-clause-judged : goal.returns-in-Module-clause-judged
+returns-in-Module-clause-judged c = rw (← c.in-Module.ensures.says, c.then_some.ensures, c.is_module.ensures) (module-judged _ _ _ c.in-Module.m c.requires.0.1)
