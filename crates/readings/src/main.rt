@@ -23,8 +23,8 @@ fn put_names(line: &mut Line, names: Names, base: u8) -> io::Result<()>
     if names.count == 0 {
         return line.write_all(b"-");
     }
-    for letter in names.letters.iter().take(names.count) {
-        line.write_all(&[base + *letter % 26])?;
+    for letter in names.letters.into_iter().take(names.count) {
+        line.write_all(&[base + letter % 26])?;
     }
     Ok(())
 }
@@ -35,8 +35,8 @@ fn put_flags(line: &mut Line, flags: [bool; 26]) -> io::Result<()> {
     if !flags.contains(&true) {
         return line.write_all(b"-");
     }
-    for (letter, flag) in (b'A'..=b'Z').zip(flags.iter()) {
-        if *flag {
+    for (letter, flag) in (b'A'..=b'Z').zip(flags) {
+        if flag {
             line.write_all(&[letter])?;
         }
     }

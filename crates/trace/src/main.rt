@@ -21,9 +21,9 @@ fn put_orders<'a, F: Fn(u8) -> &'a str>(
 ) -> io::Result<()>
     requires { F.IsAlwaysCallable mark }
 {
-    for (module, order) in modules.iter().zip(orders.iter()) {
-        if *order != 0 {
-            write!(line, " {}{}", mark(*order), char::from(b'a' + *module % 26))?;
+    for (module, order) in modules.into_iter().zip(orders) {
+        if order != 0 {
+            write!(line, " {}{}", mark(order), char::from(b'a' + module % 26))?;
         }
     }
     Ok(())
@@ -77,12 +77,12 @@ fn run<W: Write>(output: &mut W, file: &[u8], letters: &[u8]) -> io::Result<()> 
     }
     let modules = modules_of(file);
     print_start(output, modules, answer.orders)?;
-    for letter in letters {
+    for &letter in letters {
         print_step(
             output,
-            *letter,
+            letter,
             modules,
-            engine::step(file, &mut live, *letter),
+            engine::step(file, &mut live, letter),
         )?;
     }
     Ok(())
