@@ -3,10 +3,21 @@
 use Prim.Native.Nat.{ℕ, zero, suc, ◌+◌, ◌<◌}
 use mathlib.Core.Path.{◌≡◌, refl, sym, ap, ap₂, ◌∙◌}
 use mathlib.Core.Bool.{Bool, true, false, ◌&&◌, and-true, and-false, and_assoc}
-use native.Mathlib.Nat.{add-suc, add-zero, not-suc-le-zero}
+use mathlib.Core.List.{[], ◌∷◌, map}
+use native.Mathlib.Nat.{add-suc, add-zero, zero-add, not-suc-le-zero}
 use native.Mathlib.Numerals.{add-one}
 use native.Mathlib.Decide.{dec_lt}
 use native.Mathlib.Omega.{arith}
+use denote.Param.Members.{Mut}
+use Rattle.std.specs.declared.ops.Range.{Range}
+use Rattle.std.specs.Fn.{Called}
+use Rattle.std.specs.Iterator.{ChecksAll}
+use Rattle.std.specs.List.{list_all, range_with_len}
+use Rattle.std.proofs.iter.Yields.{nat_range_steps}
+use Rattle.std.proofs.lemmas.Iterator.{YieldsList-from_range}
+use Rattle.std.proofs.lemmas.Iterator.Search.{all_from_yields_List}
+use Rattle.std.proofs.lemmas.List.Folds.{list_all-append, list_all-map}
+use Rattle.std.proofs.lemmas.List.FromFn.{map-range_with_len_more}
 use Rattle.paper.specs.Lists.{every}
 use Rattle.layout.proofs.Tests.{and_both}
 
@@ -63,3 +74,25 @@ every-add m zero p = ap (λ (n : ℕ). every n p) (add-zero m) ∙ sym (and-true
 every-add m (suc n) p =
     ap (λ (k : ℕ). every k p) (add-suc m n) ∙ ap (λ (a : Bool). a && p (m + n)) (every-add m n p)
     ∙ and_assoc (every m p) (every n (λ k. p (m + k))) (p (m + n))
+
+-- ---- `all` over a range
+
+list_all-range : (n : ℕ) (p : ℕ → Bool) → list_all p (range_with_len 0 n) ≡ every n p
+unfolding every
+list_all-range zero p = refl
+list_all-range (suc n) p =
+    sym (list_all-map same p (range_with_len 0 (suc n)))
+    ∙ ap (λ (k : ℕ). list_all same (map p (range_with_len 0 k))) (sym (add-one n))
+    ∙ ap (list_all same) (map-range_with_len_more p 0 n n (zero-add n))
+    ∙ list_all-append same (map p (range_with_len 0 n)) (p n ∷ [])
+    ∙ ap₂ (λ (b c : Bool). b && c) (list_all-map same p (range_with_len 0 n) ∙ list_all-range n p) (and-true (p n))
+  where
+    same : Bool → Bool
+    same b = b
+
+-- what `(0..n).all(..)` answers, where the closure tests p
+pub every-from_all : {F : Type 0} {g : Mut F (ℕ × Unit {0}) Bool} {s u : Range ℕ} {f : F} {r : Bool} (n : ℕ) (p : ℕ → Bool)
+    → ChecksAll nat_range_steps g s f r u → ((x : ℕ) (b : Bool) (q : F) → Called g f (x, tt) b q → (q ≡ f) × (b ≡ p x))
+    → s ≡ record { start = 0; end = n } → r ≡ every n p
+every-from_all {u = u} {f = f} {r = r} n p ran tests e =
+    all_from_yields_List p u f r ran (YieldsList-from_range 0 n n e (omega arith)) tests ∙ list_all-range n p
