@@ -1,15 +1,12 @@
 -- What the header of a table says, of the check of No. 19.
 --     Read t c              c has the counts of t
 --     Counted t c           and layout, counts and length of t are right
---     shape_says t h         what a header says of layout, counts and length
 --     in_limits c            the counts are within document 01's
 -- Assumes nothing.
-use Rattle.std.specs.Prelude.{ℕ, ◌+◌, ◌/◌, ◌≤◌, ◌≡◌, Bool, false, ◌&&◌, List, leb, length}
-use Rattle.paper.specs.IsTable.{layout, module_count, event_count, state_count, is_table}
+use Rattle.std.specs.Prelude.{ℕ, ◌+◌, ◌/◌, ◌≤◌, ◌≡◌, Bool, ◌&&◌, List, leb, length}
+use Rattle.paper.specs.IsTable.{layout, module_count, event_count, state_count}
 use Rattle.layout.specs.Places.{place}
 use Rattle.counts.specs.declared.Counts.{Counts}
-use Rattle.counts.specs.declared.Shape.{Shape}
-use Rattle.counts.specs.declared.Shape.TheVariants.{Wrong, Right}
 
 pub record Read (t : List ℕ) (c : Counts) : Type 0 where
   pub modules : c.modules ≡ module_count t
@@ -24,10 +21,6 @@ pub record Counted (t : List ℕ) (c : Counts) : Type 0 where
   pub few_states : c.states ≤ 512
   pub some_states : 1 ≤ c.states
   pub long : length t ≡ (place c.modules c.events c.states 0 + 7) / 8
-
-unfoldable pub shape_says : List ℕ → Shape → Type 0
-shape_says t Wrong = is_table t ≡ false
-shape_says t (Right c) = Counted t c
 
 abbrev pub in_limits : Counts → Bool
 in_limits c = leb c.modules 8 && leb c.events 8 && leb c.states 512
