@@ -127,8 +127,8 @@ orders-zero t at (suc m) h =
     ∙ ap (λ (n : ℕ). eqb n 0) (sym (ap (field t at) e ∙ field-add t at (2 * m) 2 (omega arith)))
 
 -- an entry is a small number
-pub entry-small : (t : List ℕ) (at d : ℕ) → d ≤ 16 → field t at (10 + d) < 67108864
-entry-small t at d h = lt_of_lt_of_le (field_lt t at (10 + d)) (pow_mono {j = 26} (omega arith))
+pub entry_small : (t : List ℕ) (at d : ℕ) → d ≤ 16 → field t at (10 + d) < 67108864
+entry_small t at d h = lt_of_lt_of_le (field_lt t at (10 + d)) (pow_mono {j = 26} (omega arith))
 
 module _ (t : List ℕ) (at m s : ℕ) (within : at + (10 + 2 * m) ≤ 8 * length t) (narrow : m ≤ 8) (some : 1 ≤ s) (few : s ≤ 512) where
   entry-fields : field t at (10 + 2 * m) ≡ (field t at 1 * 512 + field t (at + 1) 9) * 2 ^ (2 * m) + field t (at + 10) (2 * m)
@@ -140,7 +140,7 @@ module _ (t : List ℕ) (at m s : ℕ) (within : at + (10 + 2 * m) ≤ 8 * lengt
   orders_are = orders-zero t (at + 10) m (omega arith)
 
   small : field t at (10 + 2 * m) < 67108864
-  small = entry-small t at (2 * m) (omega arith)
+  small = entry_small t at (2 * m) (omega arith)
 
   pub module-entry : ltb (next_of (field t at (10 + 2 * m)) (2 * m) 67108863) s
       ≡ (ltb (field t (at + 1) 9) s && (eqb (field t at 1) 1 || (eqb (field t (at + 1) 9) 0 && every m (λ k. eqb (field t (at + 10 + 2 * k) 2) 0))))

@@ -1,12 +1,10 @@
 -- The code's one pass over the entries tests next states, zeros and event bits: a state's entries are those of its modules and those of its events,
 -- each by the law of one entry, and `every` goes through `&&`. Assumes nothing.
-use Prim.Native.Nat.{ℕ, ◌+◌, ◌*◌, ◌≤◌, ◌<◌}
-use mathlib.Core.Path.{◌≡◌, sym, ap, ap₂, ◌∙◌, subst}
-use mathlib.Core.Bool.{Bool, not, ◌&&◌, ◌||◌, and_assoc}
-use mathlib.Core.List.{List}
-use native.Mathlib.Omega.{arith}
+use Rattle.std.proofs.Common.{ℕ, ◌+◌, ◌*◌, ◌≤◌, ◌<◌, ◌≡◌, sym, ap, ◌∙◌, subst, Bool, not, ◌&&◌, ◌||◌, List, length, arith, zero-add}
+use mathlib.Core.Path.{ap₂}
+use mathlib.Core.Bool.{and_assoc}
+use native.Mathlib.Nat.{le_trans}
 use lib.Dec.{eqb, ltb}
-use lib.ListN.{length}
 use Rattle.paper.specs.Lists.{every}
 use Rattle.paper.specs.IsTable.{field, module_count, event_count, state_count, wrong_next, zeros, wrong_zeros, wrong_event}
 use Rattle.counts.specs.declared.Counts.{Counts}
@@ -16,8 +14,22 @@ use Rattle.entries.specs.Entries.{next_of, run_right, row_right}
 use Rattle.layout.proofs.Tests.{not_three}
 use Rattle.layout.proofs.Every.{every-same, every-and, every-add, four}
 use Rattle.entries.proofs.Entries.{module-entry, event-entry}
-use Rattle.layout.proofs.Places.{row-place, row-place-add, entry-within}
+use Rattle.layout.proofs.Places.{place-add, place-le, entry-within}
 use Rattle.counts.proofs.Counted.{with-counts, within_all}
+
+-- a state's events stand behind its modules
+place-events : (m n s : ℕ) → place m n s 0 + m * (10 + 2 * m) ≡ place m n s m
+place-events m n s = place-add m n s 0 m ∙ ap (place m n s) (zero-add m)
+
+pub row_is : (t : List ℕ) (m n s states : ℕ) → row_right t (place m n s 0) m n states
+    ≡ (run_right t (place m n s 0) m (2 * m) states 67108863 && run_right t (place m n s m) n (2 * m) states 67108864)
+unfolding row_right
+row_is t m n s states = ap (λ (at : ℕ). run_right t (place m n s 0) m (2 * m) states 67108863 && run_right t at n (2 * m) states 67108864) (place-events m n s)
+
+-- entries of a state lie within the slice
+pub run_within : (t : List ℕ) (c : Counts) (s l k : ℕ) → Counted t c → s < c.states → l + k ≤ c.modules + c.events
+    → place c.modules c.events s l + k * (10 + 2 * c.modules) ≤ 8 * length t
+run_within t c s l k h b e = rw (place-add c.modules c.events s l k) (le_trans (place-le c.modules c.events s (l + k) c.states b e) (within_all t c h))
 
 -- ---- the tests of No. 19, at the place of an entry
 
@@ -31,7 +43,7 @@ abbrev possible_ok : List ℕ → (at : ℕ) → Bool
 possible_ok t at = eqb (field t at 1) 1
 
 module _ (t : List ℕ) (m n states : ℕ) (within : place m n states 0 ≤ 8 * length t) (narrow : m ≤ 8) (some : 1 ≤ states) (few : states ≤ 512) where
-  row-tests : (s : ℕ) → s < states → row_right t (24 + 6 * (m + n) + s * ((m + n) * (10 + 2 * m))) m n states
+  row-tests : (s : ℕ) → s < states → row_right t (place m n s 0) m n states
       ≡ (every (m + n) (λ l. next_ok t states (place m n s l)) && every (m + n) (λ l. zeros_ok t m (place m n s l))
       && every n (λ e. possible_ok t (place m n s (m + e))))
   unfolding row_right run_right
@@ -46,21 +58,21 @@ module _ (t : List ℕ) (m n states : ℕ) (within : place m n states 0 ≤ 8 * 
       (four (every m (λ l. next_ok t states (place m n s l))) (every m (λ l. zeros_ok t m (place m n s l))) (every n (λ e. next_ok t states (place m n s (m + e)))) (every n (λ e. zeros_ok t m (place m n s (m + e))))
       ∙ ap₂ (λ (a b : Bool). a && b) (sym (every-add m n (λ l. next_ok t states (place m n s l)))) (sym (every-add m n (λ l. zeros_ok t m (place m n s l)))))
     where
-      modules_are : (k : ℕ) → k < m → ltb (next_of (field t (24 + 6 * (m + n) + s * ((m + n) * (10 + 2 * m)) + k * (10 + 2 * m)) (10 + 2 * m)) (2 * m) 67108863) states
+      modules_are : (k : ℕ) → k < m → ltb (next_of (field t (place m n s 0 + k * (10 + 2 * m)) (10 + 2 * m)) (2 * m) 67108863) states
           ≡ (next_ok t states (place m n s k) && zeros_ok t m (place m n s k))
       modules_are k hk =
           let w = entry-within m n s k states hs (omega arith) in
-          ap (λ (at : ℕ). ltb (next_of (field t at (10 + 2 * m)) (2 * m) 67108863) states) (row-place m n s k)
+          ap (λ (at : ℕ). ltb (next_of (field t at (10 + 2 * m)) (2 * m) 67108863) states) (place-add m n s 0 k ∙ ap (place m n s) (zero-add k))
           ∙ module-entry t (place m n s k) m states (omega arith) narrow some few
 
-      events_are : (k : ℕ) → k < n → ltb (next_of (field t (24 + 6 * (m + n) + s * ((m + n) * (10 + 2 * m)) + m * (10 + 2 * m) + k * (10 + 2 * m)) (10 + 2 * m)) (2 * m) 67108864) states
+      events_are : (k : ℕ) → k < n → ltb (next_of (field t (place m n s 0 + m * (10 + 2 * m) + k * (10 + 2 * m)) (10 + 2 * m)) (2 * m) 67108864) states
           ≡ ((next_ok t states (place m n s (m + k)) && zeros_ok t m (place m n s (m + k))) && possible_ok t (place m n s (m + k)))
       events_are k hk =
           let w = entry-within m n s (m + k) states hs (omega arith) in
-          ap (λ (at : ℕ). ltb (next_of (field t at (10 + 2 * m)) (2 * m) 67108864) states) (row-place-add m n s k)
+          ap (λ (at : ℕ). ltb (next_of (field t at (10 + 2 * m)) (2 * m) 67108864) states) (ap (λ (at : ℕ). at + k * (10 + 2 * m)) (place-events m n s) ∙ place-add m n s m k)
           ∙ event-entry t (place m n s (m + k)) m states (omega arith) narrow some few
 
-  all-tests : every states (λ s. row_right t (24 + 6 * (m + n) + s * ((m + n) * (10 + 2 * m))) m n states)
+  all-tests : every states (λ s. row_right t (place m n s 0) m n states)
       ≡ (every states (λ s. every (m + n) (λ l. next_ok t states (place m n s l)))
       && every states (λ s. every (m + n) (λ l. zeros_ok t m (place m n s l)))
       && every states (λ s. every n (λ e. possible_ok t (place m n s (m + e)))))
@@ -73,7 +85,7 @@ module _ (t : List ℕ) (m n states : ℕ) (within : place m n states 0 ≤ 8 * 
 -- ---- what the code tests, with the counts that it read
 
 abbrev pub are_rows_right : List ℕ → (m n states : ℕ) → Bool
-are_rows_right t m n states = every states (λ s. row_right t (24 + 6 * (m + n) + s * ((m + n) * (10 + 2 * m))) m n states)
+are_rows_right t m n states = every states (λ s. row_right t (place m n s 0) m n states)
 
 rows_are : (t : List ℕ) → place (module_count t) (event_count t) (state_count t) 0 ≤ 8 * length t → module_count t ≤ 8 → 1 ≤ state_count t → state_count t ≤ 512
     → are_rows_right t (module_count t) (event_count t) (state_count t) ≡ not (wrong_next t || wrong_zeros t || wrong_event t)

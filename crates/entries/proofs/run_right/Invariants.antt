@@ -1,13 +1,8 @@
--- `entries::run_right` meets its contract: the loop's invariant: `bit` is the place of the k-th entry, and the entries before it pass.
+-- `entries::run_right` meets its contract: the entries before the k-th pass.
 -- Assumes nothing.
-use Prim.Native.Nat.{◌≤◌, ◌-◌, ◌*◌, ◌+◌}
-use mathlib.Core.Path.{◌≡◌}
-use mathlib.Core.Bool.{true}
+use Rattle.std.proofs.Common.{◌≡◌, true}
 use Rattle.entries.specs.Entries.{run_right}
 use Rattle.entries.proofs.run_right.Given as goal
 
 abbrev pub invariant-loop-k : goal.invariant-loop-k
-invariant-loop-k l = (l.k ≤ l.count) × ((l.bit ≡ l.from + l.k * (10 + l.down)) × (run_right l.t l.from l.k l.down l.states l.round ≡ true))
-
-abbrev pub decreases-loop-k : goal.decreases-loop-k
-decreases-loop-k l = l.count - l.k
+invariant-loop-k l = run_right l.table l.from l.k l.down l.counts.states l.round ≡ true
