@@ -15,9 +15,11 @@ use Rattle.fields.proofs.Bits.{bits_of-length}
 use Rattle.counts.specs.declared.Counts.{Counts}
 use Rattle.layout.specs.Places.{place}
 use Rattle.counts.specs.Counts.{Read, Counted}
-use Rattle.layout.proofs.Tests.{or_cases, not-or, not-not}
+use Rattle.layout.proofs.Tests.{and_both, or_cases, not-or, not-not}
 use Rattle.layout.proofs.Conditions.{right-layout}
 use Rattle.counts.proofs.Counted.{with-counts}
+use Rattle.std.specs.Bool.{then_some}
+use Rattle.std.specs.Option.{MatchOption}
 
 -- ---- one part is wrong
 
@@ -59,17 +61,16 @@ module _ (t : List ℕ) where
 
 -- ---- the names, the padding
 
-abbrev pub names_right : List ℕ → (m n : ℕ) → Bool
-names_right t m n = ascend t 0 m && ascend t m n
-
-pub names-right : (t : List ℕ) (c : Counts) → Read t c → names_right t c.modules c.events ≡ not (wrong_name t)
+pub names_are : (t : List ℕ) (c : Counts) → Counted t c → (ascend t 0 c.modules && ascend t c.modules c.events) ≡ not (wrong_name t)
 unfolding wrong_name
-names-right t c r = with-counts (λ m n s. names_right t m n) t c r ∙ sym (not-not (ascend t 0 (module_count t) && ascend t (module_count t) (event_count t)))
+names_are t c h =
+    with-counts (λ m n s. ascend t 0 m && ascend t m n) t c h.read
+    ∙ sym (not-not (ascend t 0 (module_count t) && ascend t (module_count t) (event_count t)))
 
-pub padding-right : (t : List ℕ) (c : Counts) (end x : ℕ) → Read t c → end ≡ place c.modules c.events c.states 0
+pub padding_right : (t : List ℕ) (c : Counts) (end x : ℕ) → Read t c → end ≡ place c.modules c.events c.states 0
     → x ≡ field t end (8 * length t - end) → eqb x 0 ≡ not (wrong_padding t)
 unfolding wrong_padding field
-padding-right t c end x r f e =
+padding_right t c end x r f e =
     let l : length (drop end (bits_of t)) ≤ 8 * length t - end = simp (length-drop, bits_of-length) (omega arith) in
     ap (λ (n : ℕ). eqb n 0) (e ∙ ap (number_from 0) (take_all (8 * length t - end) (drop end (bits_of t)) l))
     ∙ ap (λ (n : ℕ). eqb (number_from 0 (drop n (bits_of t))) 0) (f ∙ with-counts (λ m n s. place m n s 0) t c r)
@@ -102,3 +103,14 @@ is-table t c h n s r p =
     let e = not-or (wrong_next t || wrong_zeros t) (wrong_event t) r in
     let f = not-or (wrong_next t) (wrong_zeros t) (ap not e.0) in
     simp (l, k, g, a, b, d, e.1, f.0, f.1)
+
+-- past the header: `right` says that names, start bits, entries and padding are
+pub checked_says : (t : List ℕ) (c : Counts) → Counted t c → (right : Bool)
+    → right ≡ (not (wrong_name t) && not (wrong_start t) && not (wrong_next t || wrong_zeros t || wrong_event t) && not (wrong_padding t))
+    → MatchOption (then_some right c) (is_table t ≡ false) (λ k. Counted t k × (is_table t ≡ true))
+checked_says t c h true e =
+    let p = and_both (not (wrong_name t) && not (wrong_start t) && not (wrong_next t || wrong_zeros t || wrong_event t)) (not (wrong_padding t)) (sym e) in
+    let r = and_both (not (wrong_name t) && not (wrong_start t)) (not (wrong_next t || wrong_zeros t || wrong_event t)) p.0 in
+    let s = and_both (not (wrong_name t)) (not (wrong_start t)) r.0 in
+    (h, is-table t c h s.0 s.1 r.1 p.1)
+checked_says t c h false e = grind (arith, no_name t, no_start t, no_rows t, no-padding t)

@@ -1,28 +1,12 @@
--- `valid::names_right` meets its contract: the modules' names and the events' ascend, each by itself.
+-- `valid::names_right` meets its contract: the modules' names and the events' ascend, each by itself (`names_are`).
 -- Assumes nothing.
-use mathlib.Core.Path.{sym, ◌∙◌}
-use native.Mathlib.Omega.{arith}
-use Rattle.layout.proofs.Tests.{second, first-fails}
-use Rattle.counts.proofs.Counted.{within_all}
-use Rattle.valid.proofs.Check.{names-right}
+use Rattle.std.proofs.Common.{arith}
+use Rattle.std.proofs.lemmas.Grind.{common_steps}
+use Rattle.valid.proofs.Check.{names_are}
 use Rattle.valid.proofs.names_right.Goals as goal
 
-pub ascending-requires : goal.ascending-requires
-ascending-requires c =
-    let a = c.args in
-    let h = c.requires in let w = within_all a.t.now a.c h in (omega arith, omega arith)
+pub returns-then-ascending : goal.returns-then-ascending
+returns-then-ascending c = let e = names_are c.args.table.now c.args.counts c.requires in grind (arith, common_steps, e)
 
-pub returns-then-not-ascending : goal.returns-then-not-ascending
-returns-then-not-ascending c =
-    let a = c.args in
-    first-fails _ _ (sym c.ascending.ensures ∙ c.if-not-ascending.true) ∙ names-right a.t.now a.c c.requires.read
-
-pub ascending-requires-2 : goal.ascending-requires-2
-ascending-requires-2 c =
-    let a = c.args in
-    let h = c.requires in let w = within_all a.t.now a.c h in (omega arith, omega arith)
-
-pub returns : goal.returns
-returns c =
-    let a = c.args in
-    second _ _ _ (sym c.ascending.ensures ∙ c.if-not-ascending.false) c.ascending-2.ensures ∙ names-right a.t.now a.c c.requires.read
+pub returns-else-ascending : goal.returns-else-ascending
+returns-else-ascending c = let e = names_are c.args.table.now c.args.counts c.requires in grind (arith, common_steps, e)

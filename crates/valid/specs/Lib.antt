@@ -1,2 +1,0 @@
--- What the contracts of `valid` cite. Assumes nothing.
-pub mod Check
