@@ -27,18 +27,18 @@ unfolding below
 below_more f k =
     ap (λ (n : ℕ). map f (from 0 n)) (add-one k) ∙ from-snoc f 0 k ∙ ap (λ (i : ℕ). map f (from 0 k) ++ (f i ∷ [])) (zero-add k)
 
-pub orders-none : (t : List ℕ) (at w : ℕ) → replicate 8 0 ≡ eight (fields_from t at w 0)
+pub orders_none : (t : List ℕ) (at w : ℕ) → replicate 8 0 ≡ eight (fields_from t at w 0)
 unfolding fields_from below from
-orders-none t at w = refl
+orders_none t at w = refl
 
-pub orders-more : (t : List ℕ) (at w k v : ℕ) (o : List ℕ) → o ≡ eight (fields_from t at w k) → v ≡ field t (at + w * k) w → k < 8
+pub orders_more : (t : List ℕ) (at w k v : ℕ) (o : List ℕ) → o ≡ eight (fields_from t at w k) → v ≡ field t (at + w * k) w → k < 8
     → set o k v ≡ eight (fields_from t at w (k + 1))
 unfolding fields_from
-orders-more t at w k v o e f h =
+orders_more t at w k v o e f h =
     let g : ℕ → ℕ = λ i. field t (at + w * i) w in
     ap₂ (λ (l : List ℕ) (x : ℕ). set l k x) e f ∙ eight-set (map g (below k)) k (g k) (below_length g k) h
     ∙ ap eight (sym (below_more g k))
 
 -- a narrow field is a byte
-pub field-byte : (t : List ℕ) (at w : ℕ) → w ≤ 2 → field t at w < 4
-field-byte t at w h = lt_of_lt_of_le (field_lt t at w) (pow_mono h)
+pub field_byte : (t : List ℕ) (at w : ℕ) → w ≤ 2 → field t at w < 4
+field_byte t at w h = lt_of_lt_of_le (field_lt t at w) (pow_mono h)

@@ -4,7 +4,10 @@ use mathlib.Core.Path.{◌≡◌, refl, sym, ap, ap₂, ◌∙◌}
 use mathlib.Core.Bool.{Bool, cond}
 use mathlib.Core.List.{List, [], ◌∷◌, ◌++◌, map}
 use mathlib.Core.Option.{none, some}
-use native.Mathlib.Nat.{add-zero, not-suc-le-zero, le_of_suc-le-suc}
+use Rattle.std.proofs.Common.{◌≢◌, Option, Some, None}
+use Rattle.std.specs.Option.{MatchOption}
+use Rattle.refusals.specs.Refusals.{found}
+use native.Mathlib.Nat.{add-zero, zero-add, not-suc-le-zero, le_of_suc-le-suc}
 use native.Mathlib.Omega.{arith}
 use borrow.Author.Tests.{eq-eqb, ne_eqb}
 use lib.ListN.{length, get_or, length-append, get_or-append}
@@ -34,6 +37,13 @@ index-none a x [] absent = refl
 index-none a x (y ∷ ys) absent =
     ap (λ (b : Bool). cond b (some a) (index_from (a + 1) x ys)) (ne_eqb x y (λ q. absent 0 (omega arith) (sym q)))
     ∙ index-none (a + 1) x ys (λ k l. absent (suc k) (omega arith))
+
+-- what a search by `find` tells
+pub index_found : (l : List ℕ) (x : ℕ) (r : Option ℕ) (n : ℕ) → n ≡ length l
+    → MatchOption r ((k : ℕ) → 0 ≤ k → k < n → get_or l k 0 ≢ x) (λ i. (0 ≤ i) × (i < n) × (get_or l i 0 ≡ x) × ((k : ℕ) → 0 ≤ k → k < i → get_or l k 0 ≢ x))
+    → found r ≡ index_from 0 x l
+index_found l x None n e h = sym (index-none 0 x l (λ k b. h k (omega arith) (omega arith)))
+index_found l x (Some i) n e h = sym (index_at 0 x l i (omega (arith, h.1)) (λ k b. h.3 k (omega arith) b) h.2 ∙ ap some (zero-add i))
 
 -- ---- the letters' bytes
 

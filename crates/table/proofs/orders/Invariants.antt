@@ -1,14 +1,9 @@
--- `table::orders` meets its contract: the loop's invariant: the first k of eight places hold the first k fields, and the others zeros
--- (`orders-more`).
+-- `table::orders` meets its contract: the places before the module's hold the fields so far, and the others zeros (`orders_more`).
 -- Assumes nothing.
-use Prim.Native.Nat.{◌≤◌, ◌-◌}
-use mathlib.Core.Path.{◌≡◌}
+use Rattle.std.proofs.Common.{◌≡◌}
 use Rattle.paper.specs.Calls.{eight}
 use Rattle.table.specs.Answers.{fields_from}
 use Rattle.table.proofs.orders.Given as goal
 
-abbrev pub invariant-loop-k : goal.invariant-loop-k
-invariant-loop-k l = (l.k ≤ l.count) × (l.out ≡ eight (fields_from l.t l.bit l.width l.k))
-
-abbrev pub decreases-loop-k : goal.decreases-loop-k
-decreases-loop-k l = l.count - l.k
+abbrev pub invariant-loop-module : goal.invariant-loop-module
+invariant-loop-module l = l.orders ≡ eight (fields_from l.table l.bit l.width l.module)
