@@ -4,20 +4,22 @@
 #![tactic(auto)]
 
 use arrayvec::ArrayVec;
+use refusals::Refusal;
 use std::io;
 use std::io::{Read, Write};
 use streams::Call;
 use table::Answer;
 
-fn print_state<W: Write>(output: &mut W, answer: Answer) -> io::Result<()> {
+fn print_state<W: Write>(output: &mut W, answer: Result<Answer, Refusal>) -> io::Result<()> {
     let mut line = ArrayVec::<u8, 64>::new();
-    if answer.number != 0 {
-        write!(line, "refused {}", answer.number)?;
-    } else {
-        write!(line, "state {}", answer.state)?;
-        for order in answer.orders {
-            write!(line, " {order}")?;
+    match answer {
+        Ok(answer) => {
+            write!(line, "state {}", answer.state)?;
+            for order in answer.orders {
+                write!(line, " {order}")?;
+            }
         }
+        Err(refusal) => write!(line, "refused {}", refusal.reason.number())?,
     }
     line.write_all(b"\n")?;
     output.write_all(line.as_slice())
