@@ -7,7 +7,10 @@ ghost use Rattle.paper.specs.Parse.{parse};
 ghost use Rattle.paper.specs.Refusals.{basic, adaptive};
 ghost use Rattle.paper.specs.Calls.{compiled, table_start, table_step, live_start, live_step};
 ghost use Rattle.coding.specs.Code.{coding};
+ghost use Rattle.table.specs.Answers.{stepped};
 ghost use Rattle.cart.specs.Outcome.{compiles, outcome, lived};
+
+use refusals::Refusal;
 
 // Number and place of a refusal, all else zero; or number 0, how many states the table has and how many bytes.
 #[repr(C)]
@@ -27,6 +30,31 @@ pub struct TableAnswer {
     pub place: usize,
     pub state: usize,
     pub orders: [u8; 8],
+}
+
+// As C sees what the table calls answer.
+impl From<Result<table::Answer, Refusal>> for TableAnswer {
+    ghost from_gives = { λ answer c. outcome c ≡ stepped answer };
+
+    fn from(answer: Result<table::Answer, Refusal>) -> Self {
+        match answer {
+            Ok(answer) => {
+                let orders = answer.orders;
+                TableAnswer {
+                    number: 0,
+                    place: 0,
+                    state: answer.state,
+                    orders,
+                }
+            }
+            Err(refusal) => TableAnswer {
+                number: refusal.reason.number(),
+                place: refusal.place,
+                state: 0,
+                orders: [0; 8],
+            },
+        }
+    }
 }
 
 // Number and place of a refusal, all else zero; or number 0 and one order for each module, zeros up to eight.
@@ -79,14 +107,7 @@ pub extern "C" fn cart_compile_adaptive(
 pub extern "C" fn cart_table_start(table: &[u8]) -> TableAnswer
     ensures { outcome result ≡ table_start table.now }
 {
-    let start = table::start(table);
-    let orders = start.orders;
-    TableAnswer {
-        number: start.number,
-        place: start.place,
-        state: start.state,
-        orders,
-    }
+    table::start(table).into()
 }
 
 // Table step: No. 19 to 22, or the next state and one order for each module.
@@ -94,14 +115,7 @@ pub extern "C" fn cart_table_start(table: &[u8]) -> TableAnswer
 pub extern "C" fn cart_table_step(table: &[u8], state: usize, letter: u8) -> TableAnswer
     ensures { outcome result ≡ table_step table.now state letter }
 {
-    let step = table::step(table, state, letter);
-    let orders = step.orders;
-    TableAnswer {
-        number: step.number,
-        place: step.place,
-        state: step.state,
-        orders,
-    }
+    table::step(table, state, letter).into()
 }
 
 // Live start: No. 1 to 14, or the start's code in `live`, and the modules that run. A refusal leaves `live` as it was.
