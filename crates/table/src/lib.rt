@@ -9,6 +9,7 @@ ghost use Rattle.counts.specs.Counts.{Counted};
 ghost use Rattle.table.specs.Answers.{stepped, fields_from};
 
 use counts::Counts;
+use fields::FieldReader;
 use refusals::{Reason, Refusal};
 use valid::checked;
 
@@ -27,7 +28,7 @@ fn orders(table: &[u8], counts: Counts, bit: usize, width: usize) -> [u8; 8]
 {
     let mut orders = [0; 8];
     for module in 0..counts.modules {
-        orders[module] = fields::get(table, bit + width * module, width) as u8;
+        orders[module] = FieldReader::new(table, bit + width * module).next(width) as u8;
     }
     orders
 }
