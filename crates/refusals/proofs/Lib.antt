@@ -1,0 +1,2 @@
+-- Laws of the reasons' numbers. Assumes nothing.
+pub mod Numbers
