@@ -24,6 +24,8 @@ use Rattle.paper.specs.Calls.{Stepped, Lived, cleared, eight, tabled, compiled, 
 use Rattle.fields.specs.Window.{Bytes}
 use Rattle.layout.specs.InRange.{InRange}
 use Rattle.coding.specs.Code.{coding}
+use Rattle.std.proofs.Common.{Result}
+use Rattle.refusals.specs.declared.Refusal.{Refusal as CallRefusal}
 use Rattle.table.specs.declared.Answer.{Answer as TableAnswer}
 use Rattle.table.specs.Answers.{stepped}
 use Rattle.engine.specs.declared.Answer.{Answer as LiveAnswer}
@@ -153,7 +155,7 @@ eight-long os =
     let l : length (os ++ replicate 8 0) ≡ length os + 8 = length-append os (replicate 8 0) in
     length-take 8 (os ++ replicate 8 0) ∙ omega (arith, l)
 
-module _ (x : Stepped) (R : ℕ → ℕ → Type 0) (sound : TableSound x R) (ends : TableEnds x R) (r : TableAnswer) (met : stepped r ≡ x) where
+module _ (x : Stepped) (R : ℕ → ℕ → Type 0) (sound : TableSound x R) (ends : TableEnds x R) (r : Stepped) (met : r ≡ x) where
   table-sound : Sound r.number r.place R
   table-sound n p h =
       let s = sound n p h in
@@ -177,14 +179,15 @@ module _ (x : Stepped) (R : ℕ → ℕ → Type 0) (sound : TableSound x R) (en
   table-exactly = (exactly r.number r.place R table-sound (table-verdict ends), table-left ends)
 
 -- "Table start: 19"
-pub table-start-exactly : (t : List ℕ) (r : TableAnswer) → TableStarts t r → Exactly r.number r.place (TableStartRefuses t) × TableLeaves r
-table-start-exactly t r met = table-exactly (table_start t) (TableStartRefuses t) (start-sound t) (start-ends t) r met
+pub table-start-exactly : (t : List ℕ) (r : Result TableAnswer CallRefusal) → TableStarts t r
+    → Exactly (stepped r).number (stepped r).place (TableStartRefuses t) × TableLeaves (stepped r)
+table-start-exactly t r met = table-exactly (table_start t) (TableStartRefuses t) (start-sound t) (start-ends t) (stepped r) met
 
 -- "Table step: 19 to 22."
-pub table-step-exactly : (t : List ℕ) (state letter : ℕ) (r : TableAnswer) → TableSteps t state letter r
-    → Exactly r.number r.place (TableStepRefuses t state letter) × TableLeaves r
+pub table-step-exactly : (t : List ℕ) (state letter : ℕ) (r : Result TableAnswer CallRefusal) → TableSteps t state letter r
+    → Exactly (stepped r).number (stepped r).place (TableStepRefuses t state letter) × TableLeaves (stepped r)
 table-step-exactly t state letter r met =
-    table-exactly (table_step t state letter) (TableStepRefuses t state letter) (step-sound t state letter) (step-ends t state letter) r met
+    table-exactly (table_step t state letter) (TableStepRefuses t state letter) (step-sound t state letter) (step-ends t state letter) (stepped r) met
 
 pub not-table-exactly : (t : List ℕ) → Bytes t → NotTable t ↔ ((a : Table) → InRange a → written a ≡ t → ⊥)
 not-table-exactly = not_written

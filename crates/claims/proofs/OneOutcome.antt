@@ -5,20 +5,29 @@ use Prim.Native.Nat.{ℕ}
 use mathlib.Core.Path.{◌≡◌, refl, sym, ap, ◌∙◌}
 use mathlib.Core.List.{List}
 use mathlib.Core.Logic.{◌↔◌}
+use native.Mathlib.Omega.{arith}
+use Rattle.std.proofs.Common.{Result, Ok, Err}
 use Rattle.paper.specs.Parse.{Parsed, Right, parse}
 use Rattle.paper.specs.Refusals.{Edition}
 use Rattle.paper.specs.Calls as calls
-use Rattle.paper.specs.Calls.{Stepped, Lived, CodingRight, compiled, table_start, table_step, live_start, live_step}
+use Rattle.paper.specs.Calls.{Stepped, not_stepped, steps_to, eight, Lived, CodingRight, compiled, table_start, table_step, live_start, live_step}
 use Rattle.laws.proofs.Parsing.{parse-right}
 use Rattle.laws.proofs.Outcomes.{compiled-same, live-start-same, live-step-same}
 use Rattle.coding.specs.Code.{coding}
 use Rattle.coding.proofs.Right.{coding-right}
+use Rattle.refusals.specs.declared.Reason.{Reason}
+use Rattle.refusals.specs.declared.Reason.TheVariants.{NoTable, NoState, ForeignLetter, NotRunning}
+use Rattle.refusals.specs.declared.Refusal.{Refusal}
+use Rattle.refusals.specs.Refusals.{number_of}
+use Rattle.refusals.proofs.Numbers.{number_of_some, refusal_one}
 use Rattle.table.specs.declared.Answer.{Answer as TableAnswer}
 use Rattle.table.specs.Answers.{stepped}
 use Rattle.engine.specs.declared.Answer.{Answer as LiveAnswer}
 use Rattle.engine.specs.Live as engine
 use Rattle.compiler.specs.declared.Compiled.{Compiled}
 use Rattle.compiler.specs.Compiling as compiler
+use Rattle.claims.specs.Exactly.{TableStartRefuses, start_19, TableStepRefuses, step_19, step_20, step_21, step_22}
+use Rattle.claims.proofs.Tabling.{TableEnds, refuses, goes, start-ends, step-ends}
 use Rattle.claims.specs.Promises.{Compiles, CompilesBasic, CompilesAdaptive, TableStarts, TableSteps, LiveStarts, LiveSteps}
 
 -- ---- an outcome has one answer and one content of each buffer
@@ -35,15 +44,18 @@ compiled-one r s o w o' w' e = (
   (ap (λ (x : calls.Compiled). x.output) e, ap (λ (x : calls.Compiled). x.work) e),
 )
 
-stepped-one : (r s : TableAnswer) → stepped r ≡ stepped s → r ≡ s
-stepped-one r s e =
-    λ i.
-    record {
-      number = ap (λ (x : Stepped). x.number) e i;
-      place = ap (λ (x : Stepped). x.place) e i;
-      state = ap (λ (x : Stepped). x.state) e i;
-      orders = ap (λ (x : Stepped). x.orders) e i;
-    }
+stepped-one : (r s : Result TableAnswer Refusal) → stepped r ≡ stepped s → r ≡ s
+stepped-one (Ok a) (Ok b) e = ap Ok (λ i. record { state = ap (λ (x : Stepped). x.state) e i; orders = ap (λ (x : Stepped). x.orders) e i })
+stepped-one (Err a) (Err b) e = ap Err (refusal_one a b (ap (λ (x : Stepped). x.number) e) (ap (λ (x : Stepped). x.place) e))
+stepped-one (Ok a) (Err b) e = absurd (omega (arith, number_of_some b.reason, ap (λ (x : Stepped). x.number) e))
+stepped-one (Err a) (Ok b) e = absurd (omega (arith, number_of_some a.reason, ap (λ (x : Stepped). x.number) e))
+
+-- a refusal of the table's calls speaks of no place
+refuses-at-none : (x : Stepped) (r : Reason) → x ≡ not_stepped (number_of r) → (y : Result TableAnswer Refusal) × (stepped y ≡ x)
+refuses-at-none x r i = (Err (record { reason = r; place = 0 }), sym i)
+
+goes-to : (x : Stepped) (state : ℕ) (os : List ℕ) → x ≡ steps_to state os → (y : Result TableAnswer Refusal) × (stepped y ≡ x)
+goes-to x state os i = (Ok (record { state = state; orders = eight os }), sym i)
 
 lived-one : (r s : LiveAnswer) (l l' : List ℕ) → engine.outcome r l ≡ engine.outcome s l' → (r ≡ s) × (l ≡ l')
 lived-one r s l l' e = (
@@ -80,21 +92,28 @@ compile-any-reader f right e file output work r output' work' =
 
 -- ---- the table's start and step
 
-pub table-start-one : (t : List ℕ) (r s : TableAnswer) → TableStarts t r → TableStarts t s → r ≡ s
+pub table-start-one : (t : List ℕ) (r s : Result TableAnswer Refusal) → TableStarts t r → TableStarts t s → r ≡ s
 table-start-one t r s h k = stepped-one r s (h ∙ sym k)
 
-pub table-start-some : (t : List ℕ) → (r : TableAnswer) × TableStarts t r
-table-start-some t =
-    let c = table_start t in
-    (record { number = c.number; place = c.place; state = c.state; orders = c.orders }, refl)
+pub table-start-some : (t : List ℕ) → (r : Result TableAnswer Refusal) × TableStarts t r
+table-start-some t = by (start-ends t)
+  where
+    by : TableEnds (table_start t) (TableStartRefuses t) → (r : Result TableAnswer Refusal) × TableStarts t r
+    by (refuses _ (start_19 _) i) = refuses-at-none (table_start t) NoTable i
+    by (goes state os i) = goes-to (table_start t) state os i
 
-pub table-step-one : (t : List ℕ) (state letter : ℕ) (r s : TableAnswer) → TableSteps t state letter r → TableSteps t state letter s → r ≡ s
+pub table-step-one : (t : List ℕ) (state letter : ℕ) (r s : Result TableAnswer Refusal) → TableSteps t state letter r → TableSteps t state letter s → r ≡ s
 table-step-one t state letter r s h k = stepped-one r s (h ∙ sym k)
 
-pub table-step-some : (t : List ℕ) (state letter : ℕ) → (r : TableAnswer) × TableSteps t state letter r
-table-step-some t state letter =
-    let c = table_step t state letter in
-    (record { number = c.number; place = c.place; state = c.state; orders = c.orders }, refl)
+pub table-step-some : (t : List ℕ) (state letter : ℕ) → (r : Result TableAnswer Refusal) × TableSteps t state letter r
+table-step-some t state letter = by (step-ends t state letter)
+  where
+    by : TableEnds (table_step t state letter) (TableStepRefuses t state letter) → (r : Result TableAnswer Refusal) × TableSteps t state letter r
+    by (refuses _ (step_19 _) i) = refuses-at-none (table_step t state letter) NoTable i
+    by (refuses _ (step_20 _ _) i) = refuses-at-none (table_step t state letter) NoState i
+    by (refuses _ (step_21 _ _ _) i) = refuses-at-none (table_step t state letter) ForeignLetter i
+    by (refuses _ (step_22 _ _ _ _ _ _) i) = refuses-at-none (table_step t state letter) NotRunning i
+    by (goes next os i) = goes-to (table_step t state letter) next os i
 
 -- ---- the live start and step
 

@@ -19,11 +19,10 @@ use Rattle.paper.specs.Reaction.{Program, State}
 use Rattle.paper.specs.Discovery.{Reach}
 use Rattle.paper.specs.IsTable.{state_count, possible_at, wrong_layout, wrong_count, wrong_length, wrong_name, wrong_next, wrong_zeros, wrong_event, wrong_start, wrong_padding, table_modules, table_events}
 use Rattle.paper.specs.Refusals.{Edition, adaptive, most_parts, parts_of}
-use Rattle.paper.specs.Calls.{output_bytes, work_bytes, live_bytes}
+use Rattle.paper.specs.Calls.{output_bytes, work_bytes, Stepped, live_bytes}
 use Rattle.laws.proofs.Exact.{Many}
 use Rattle.coding.specs.Written.{Written}
 use Rattle.coding.specs.Code.{code}
-use Rattle.table.specs.declared.Answer.{Answer as TableAnswer}
 use Rattle.engine.specs.declared.Answer.{Answer as LiveAnswer}
 use Rattle.compiler.specs.declared.Compiled.{Compiled}
 use Rattle.claims.specs.Faults.{ReadingRefuses, Accepts}
@@ -127,7 +126,7 @@ pub record CompileLeaves (output work : List ℕ) (r : Compiled) (output' work' 
   pub same_length : (length output' ≡ length output) × (length work' ≡ length work)
 
 -- "A refusal gives number and place, all else zero"; nothing is lent to be changed
-pub record TableLeaves (r : TableAnswer) : Type 0 where
+pub record TableLeaves (r : Stepped) : Type 0 where
   pub zeros : 1 ≤ r.number → (r.state ≡ 0) × (r.orders ≡ replicate 8 0)
   pub eight_orders : length r.orders ≡ 8
 

@@ -5,11 +5,12 @@
 --     TableStarts, TableSteps               `table`: start, step
 --     LiveStarts, LiveSteps                 `engine`: start, step
 -- A name with ' is what the buffer holds after the call. Assumes nothing.
-use Rattle.std.specs.Prelude.{ℕ, List, ◌≡◌}
+use Rattle.std.specs.Prelude.{ℕ, List, ◌≡◌, Result}
 use Rattle.paper.specs.Parse.{parse}
 use Rattle.paper.specs.Refusals.{Edition, basic, adaptive}
 use Rattle.paper.specs.Calls.{compiled, table_start, table_step, live_start, live_step}
 use Rattle.coding.specs.Code.{coding}
+use Rattle.refusals.specs.declared.Refusal.{Refusal}
 use Rattle.table.specs.declared.Answer.{Answer as TableAnswer}
 use Rattle.table.specs.Answers.{stepped}
 use Rattle.engine.specs.declared.Answer.{Answer as LiveAnswer}
@@ -27,10 +28,10 @@ CompilesBasic = Compiles basic
 abbrev pub CompilesAdaptive : (file output work : List ℕ) → Compiled → (output' work' : List ℕ) → Type 0
 CompilesAdaptive = Compiles adaptive
 
-abbrev pub TableStarts : (table : List ℕ) → TableAnswer → Type 0
+abbrev pub TableStarts : (table : List ℕ) → Result TableAnswer Refusal → Type 0
 TableStarts table r = stepped r ≡ table_start table
 
-abbrev pub TableSteps : (table : List ℕ) → (state letter : ℕ) → TableAnswer → Type 0
+abbrev pub TableSteps : (table : List ℕ) → (state letter : ℕ) → Result TableAnswer Refusal → Type 0
 TableSteps table state letter r = stepped r ≡ table_step table state letter
 
 abbrev pub LiveStarts : (file live : List ℕ) → LiveAnswer → (live' : List ℕ) → Type 0
