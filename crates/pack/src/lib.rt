@@ -53,7 +53,7 @@ fn put_high(w: &[usize], s: usize, b: &mut [u8])
     requires { (length w.now ≡ 96) × (Small (drop s w.now) × ((s ≤ 96) × (length b.old ≡ 128))) }
     ensures { Wrote (high (drop s w.now)) 96 ((99 - s) / 4) b.old b.new }
 {
-    for j in 0..(99 - s) / 4 {
+    for j in 0..(96 - s).div_ceil(4) {
         b[96 + j] = high_byte(w, s, j);
     }
 }
