@@ -6,25 +6,26 @@
 --     Leads b c             the first c marks of the memory are not zero, and the next is
 --     Limited b c n         each of those c is at most n, and the marks behind them are zero
 --     Remembers b es c m    the memory m has the events of the first c marks
+--     Recalls b es m        the marks are of such a memory, and m is it
+--     Unmarked b n          the marks are of no memory of n events
 --     fresh fs m            no event is stored twice, and none is fugitive
---     Bitted n k r          the flags of r are the n low bits of k, zeros behind, and its rest is what is left of k
---     Zeros r               the answer r is all zeros
---     Decodes q P W ms b r  the answer r is what `decode` says: the state, with its word in W; or nothing, and then zeros
+--     Bitted n k fs         the flags fs are the n low bits of k, zeros behind, and k has no other bits
+--     Decoded q P W ms b s  the state s, with its word in W, is what `decode` says
+--     Decodes q P W ms b r  the answer r is what `decode` says: the state or nothing
 -- Assumes nothing.
-use Rattle.std.specs.Prelude.{ℕ, ◌-◌, ◌/◌, ◌%◌, ◌^◌, ◌≤◌, ◌<◌, Bool, true, false, cond, not, ◌&&◌, List, [], ◌∷◌, ◌≡◌, ltb, length, get_or, replicate}
+use Rattle.std.specs.Prelude.{ℕ, ◌-◌, ◌/◌, ◌%◌, ◌^◌, ◌≤◌, ◌<◌, Bool, true, false, cond, not, ◌&&◌, List, [], ◌∷◌, ◌≡◌, ltb, length, get_or, Option, MatchOption}
 use Rattle.std.proofs.Math.Option.{none, some}
 use Rattle.paper.specs.Lists.{has}
 use Rattle.paper.specs.Reaction.{Program}
 use Rattle.rewrite.specs.Steps.{Stands}
 use Rattle.rewrite.specs.declared.Memory.{Memory}
+use Rattle.react.specs.declared.State.{State}
 use Rattle.react.specs.States.{Modules, state_of, Flags}
 use Rattle.coding.specs.Layout.{unit_in, mark_in}
 use Rattle.coding.specs.Written.{nodes_of}
 use Rattle.coding.specs.Code.{decode}
 use Rattle.coding.proofs.Fit.{Fit}
 use Rattle.walk.specs.Judging.{Weighted}
-use Rattle.unpack.specs.declared.Bits.{Bits}
-use Rattle.unpack.specs.declared.Unpacked.{Unpacked}
 
 pub record Given (P vs ms es : List ℕ) : Type 0 where
   pub weighted : Weighted P vs
@@ -57,24 +58,28 @@ pub record Remembers (b es : List ℕ) (c : ℕ) (m : Memory) : Type 0 where
   pub count_is : m.count ≡ c
   pub events_are : (i : ℕ) → i < c → get_or m.events i 0 ≡ get_or es (mark_in b i - 1) 0
 
+pub record Recalls (b es : List ℕ) (m : Memory) : Type 0 where
+  pub leads : Leads b m.count
+  pub limited : Limited b m.count (length es)
+  pub remembers : Remembers b es m.count m
+
+abbrev pub Unmarked : List ℕ → ℕ → Type 0
+Unmarked b n = (c : ℕ) × Leads b c × (Limited b c n → ⊥)
+
 unfoldable pub fresh : List Bool → List ℕ → Bool
 fresh fs [] = true
 fresh fs (e ∷ m) = (not (has e m) && not (get_or fs e false)) && fresh fs m
 
-pub record Bitted (n k : ℕ) (r : Bits) : Type 0 where
-  pub bits : (i : ℕ) → i < n → get_or r.flags i 0 ≡ k / 2 ^ i % 2
-  pub behind : (i : ℕ) → n ≤ i → get_or r.flags i 0 ≡ 0
-  pub rest_is : r.rest ≡ k / 2 ^ n
+pub record Bitted (n k : ℕ) (flags : List ℕ) : Type 0 where
+  pub all : k / 2 ^ n ≡ 0
+  pub bits : (i : ℕ) → i < n → get_or flags i 0 ≡ k / 2 ^ i % 2
+  pub behind : (i : ℕ) → n ≤ i → get_or flags i 0 ≡ 0
 
-pub record Zeros (r : Unpacked) : Type 0 where
-  pub start : r.start ≡ 0
-  pub count : r.memory.count ≡ 0
-  pub events : r.memory.events ≡ replicate 8 0
-  pub stopped : r.stopped ≡ replicate 8 0
+pub record Decoded (q : Program) (P W ms b : List ℕ) (s : State) : Type 0 where
+  pub is : decode q b ≡ some (state_of P W ms s)
+  pub stands : Stands P W s.start
+  pub few : s.memory.count ≤ 8
+  pub flags : Flags (length ms) s.stopped
 
-pub record Decodes (q : Program) (P W ms b : List ℕ) (r : Unpacked) : Type 0 where
-  pub found : r.found ≡ true → decode q b ≡ some (state_of P W ms (record { start = r.start; memory = r.memory; stopped = r.stopped }))
-  pub stands : r.found ≡ true → Stands P W r.start
-  pub few : r.memory.count ≤ 8
-  pub flags : Flags (length ms) r.stopped
-  pub refused : r.found ≡ false → (decode q b ≡ none) × Zeros r
+abbrev pub Decodes : Program → (P W ms b : List ℕ) → Option State → Type 0
+Decodes q P W ms b r = MatchOption r (decode q b ≡ none) (Decoded q P W ms b)

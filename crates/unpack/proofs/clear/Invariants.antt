@@ -1,12 +1,9 @@
--- `unpack::clear` meets its contract. From unit n up to i there are zeros.
+-- `unpack::clear`: from unit n up to i there are zeros.
 -- Assumes nothing.
-use Prim.Native.Nat.{ℕ, ◌-◌, ◌≤◌, ◌<◌}
+use Prim.Native.Nat.{ℕ, ◌≤◌, ◌<◌}
 use mathlib.Core.Path.{◌≡◌}
 use Rattle.coding.specs.Layout.{unit_in}
 use Rattle.unpack.proofs.clear.Given as goal
 
 abbrev pub invariant-loop-i : goal.invariant-loop-i
-invariant-loop-i l = ((l.n ≤ l.i) × (l.i ≤ 96)) × ((k : ℕ) → l.n ≤ k → k < l.i → unit_in l.live k ≡ 0)
-
-abbrev pub decreases-loop-i : goal.decreases-loop-i
-decreases-loop-i l = 96 - l.i
+invariant-loop-i l = (k : ℕ) → l.n ≤ k → k < l.i → unit_in l.live k ≡ 0

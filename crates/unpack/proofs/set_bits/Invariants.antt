@@ -1,11 +1,9 @@
--- `unpack::set_bits` meets its contract. The flags below i are the bits, and the rest is the number without them (`Loops`, `Bitting`).
+-- `unpack::set_bits`: the flags below i are the bits, and zeros stand behind.
 -- Assumes nothing.
-use Rattle.unpack.proofs.Loops.{Bitting}
-use Prim.Native.Nat.{◌-◌}
+use Prim.Native.Nat.{ℕ, ◌/◌, ◌%◌, ◌^◌, ◌≤◌, ◌<◌}
+use mathlib.Core.Path.{◌≡◌}
+use lib.ListN.{length, get_or}
 use Rattle.unpack.proofs.set_bits.Given as goal
 
 abbrev pub invariant-loop-i : goal.invariant-loop-i
-invariant-loop-i l = Bitting l.n l.set l.flags l.rest l.i
-
-abbrev pub decreases-loop-i : goal.decreases-loop-i
-decreases-loop-i l = l.n - l.i
+invariant-loop-i l = (length l.flags ≡ 8) × ((k : ℕ) → k < l.i → get_or l.flags k 0 ≡ l.set / 2 ^ k % 2) × ((k : ℕ) → l.i ≤ k → get_or l.flags k 0 ≡ 0)

@@ -1,11 +1,10 @@
--- `unpack::unit` meets its contract. As the layout says.
+-- `unpack::unit` meets its contract, as the layout says.
 -- Assumes nothing.
 use native.Mathlib.Omega.{arith}
-use mathlib.Core.Path.{refl}
+use Prim.Native.Nat.{◌+◌, ◌/◌, ◌%◌}
+use lib.ListN.{get_or}
+use Rattle.unpack.proofs.Loops.{two_bits}
 use Rattle.unpack.proofs.unit.Goals as goal
 
-pub overflow_add-result : goal.overflow_add-result
-overflow_add-result c = omega (arith, c.quarter.ensures, c.wide-low.ensures, c.type_inv.live c.args.i)
-
 pub returns : goal.returns
-returns c = rw (c.wide-low.ensures, c.quarter.ensures, c.wide-high.ensures) refl
+returns c = let h = two_bits (get_or c.args.live.now (96 + c.args.i / 4) 0) (c.args.i % 4) (omega arith) in omega arith
