@@ -28,7 +28,6 @@ use Rattle.emit.specs.Entries.{orders_from, entry_number}
 use Rattle.slots.specs.declared.Enrolled.{Enrolled}
 use Rattle.slots.specs.Slots.{Holds, number_in, enrolled, Enrolls, Full}
 use Rattle.slots.proofs.Enrolling.{enrolled-known, enrolled-new}
-use Rattle.slots.proofs.Numbers.{number-within}
 use Rattle.discover.specs.Finding.{entered, met, Numbered, Seen, Arrives}
 use Rattle.discover.proofs.Turning.{after, finds-one}
 
@@ -57,9 +56,6 @@ module _ (q : Program) (f : Fit q) where
       ∙ ap (λ (k : ℕ). choose (eq_s n s) (λ u. 0) (λ u. suc k)) (number-code n ss v (λ x h. w x (has-tail x s ss h)))
 
   module _ (n : State) (ss : List State) (v : Written q n) (w : AllWritten q ss) where
-    number-few : number_in (code q n) (map (code q) ss) ≤ length ss
-    number-few = omega (arith, number-within (code q n) (map (code q) ss), length-map ss (code q))
-
     -- it is there
     pub enrolled-old : Has n ss → enrolled (map (code q) ss) (code q n) ≡ map (code q) ss
     enrolled-old h =

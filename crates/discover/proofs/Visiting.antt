@@ -1,20 +1,18 @@
 -- The turn of a state that lies in the working slice: its bytes are its code, so what they are unpacked to is the state. Assumes nothing.
-use Prim.Native.Nat.{ℕ, zero, suc, ◌+◌, ◌-◌, ◌*◌, ◌≤◌, ◌<◌}
+use Prim.Native.Nat.{ℕ, zero, suc, ◌+◌, ◌-◌, ◌*◌, ◌<◌}
 use mathlib.Core.Path.{◌≡◌, refl, sym, ap, subst, ◌∙◌}
-use mathlib.Core.Bool.{Bool, true, false}
+use mathlib.Core.Bool.{Bool}
 use mathlib.Core.List.{List, [], ◌∷◌, map}
 use mathlib.Core.Option.{Option, none, some}
 use native.Mathlib.Omega.{arith}
-use native.Mathlib.Nat.{mul-le-mul, add-mul}
 use lib.Dec.{ltb}
 use lib.ListN.{length, get_or, take, drop, length-drop, length-map}
-use lib.Seq.{length-take-le}
 use Rattle.paper.specs.Reaction.{Program, State}
 use Rattle.paper.specs.Refusals.{most_parts, parts_of}
 use Rattle.paper.proofs.Choices.{clash}
 use Rattle.paper.proofs.Equal.{eq_s-refl}
 use Rattle.laws.proofs.Members.{Has, has-head, has-tail}
-use Rattle.rewrite.specs.Steps.{Stands, state}
+use Rattle.rewrite.specs.Steps.{state}
 use Rattle.react.specs.declared.State.{State as Kept}
 use Rattle.react.specs.States.{state_of}
 use Rattle.coding.specs.Written.{Written}
@@ -24,26 +22,14 @@ use Rattle.coding.proofs.Coded.{decode_code}
 use Rattle.parts.specs.Parts.{capped}
 use Rattle.parts.proofs.Capped.{capped-over}
 use Rattle.slots.specs.Slots.{block, number_in}
-use Rattle.unpack.specs.declared.Unpacked.{Unpacked}
-use Rattle.unpack.specs.Unpacking.{Decodes}
+use Rattle.unpack.specs.Unpacking.{Decoded}
 use Rattle.discover.specs.declared.Turned.{Turned}
 use Rattle.discover.specs.Finding.{Numbered, Seen, Turns, Visited}
 use Rattle.discover.proofs.Arriving.{number-code}
 
--- the entries of 512 states have room
-pub rows-room : (k n : ℕ) → k < 512 → n ≤ 16 → k * n + n ≤ 8192
-rows-room k n h l =
-    let m : k + 1 ≤ 512 = omega arith in
-    let a : (k + 1) * n ≤ 512 * 16 = mul-le-mul m l in
-    let b : (k + 1) * n ≡ k * n + 1 * n = add-mul k 1 n in
-    omega arith
-
 -- the part of the working slice that is handed over is a block
 pub part-block : (K : List ℕ) (k : ℕ) → take (128 * k + 128 - 128 * k) (drop (128 * k) K) ≡ block K k
 part-block K k = let z : 128 * k + 128 - 128 * k ≡ 128 = omega arith in ap (λ (n : ℕ). take n (drop (128 * k) K)) z
-
-pub part-long : (K : List ℕ) (k : ℕ) → 65536 ≤ length K → k < 512 → length (take (128 * k + 128 - 128 * k) (drop (128 * k) K)) ≡ 128
-part-long K k h l = ap length (part-block K k) ∙ length-take-le 128 (drop (128 * k) K) (omega (arith, length-drop (128 * k) K))
 
 has-drop : (k : ℕ) (ss : List State) (x : State) (rest : List State) → drop k ss ≡ x ∷ rest → Has x ss
 has-drop zero ss x rest e = subst (Has x) (sym e) (has-head x x rest (eq_s-refl x))
@@ -81,45 +67,36 @@ module _ (q : Program) (f : Fit q) (K X : List ℕ) (ss : List State) (seen : Se
         h,
       )
 
-  module _ (P ms W b : List ℕ) (u : Unpacked) (d : Decodes q P W ms b u) (c : b ≡ block K k) where
+  module _ (b : List ℕ) (c : b ≡ block K k) where
     decodes : decode q b ≡ some x
     decodes = ap (decode q) (c ∙ its-block) ∙ decode_code q f x its-written
 
-    pub found : u.found ≡ true
-    found = go u.found refl
+    pub not_none : decode q b ≡ none → ⊥
+    not_none e = none-some (sym e ∙ decodes)
       where
-        go : (z : Bool) → u.found ≡ z → u.found ≡ true
-        go true h = h
-        go false h = none-some (sym (d.refused h).0 ∙ decodes)
-          where
-            none-some : {A : Type 0} → ◌≡◌ {A = Option State} none (some x) → A
-            none-some h = clash (cc)
+        none-some : ◌≡◌ {A = Option State} none (some x) → ⊥
+        none-some h = clash (cc)
 
-    pub stands : Stands P W u.start
-    stands = d.stands found
+    module _ (P ms W : List ℕ) (kept : Kept) (d : Decoded q P W ms b kept) where
+      its-state : state_of P W ms kept ≡ x
+      its-state = some_same (sym d.is ∙ decodes)
+        where
+          some_same : {s t : State} → ◌≡◌ {A = Option State} (some s) (some t) → s ≡ t
+          some_same h = cc
 
-    abbrev kept : Kept
-    kept = record { start = u.start; memory = u.memory; stopped = u.stopped }
+      pub state-written : Written q (state_of P W ms kept)
+      state-written = subst (Written q) (sym its-state) its-written
 
-    its-state : state_of P W ms kept ≡ x
-    its-state = some_same (sym (d.found found) ∙ decodes)
-      where
-        some_same : {s t : State} → ◌≡◌ {A = Option State} (some s) (some t) → s ≡ t
-        some_same h = cc
+      pub state-number : Numbered (state_of P W ms kept) ss k
+      state-number = subst (λ (s : State). Numbered s ss k) (sym its-state) its-number
 
-    pub state-written : Written q (state_of P W ms kept)
-    state-written = subst (Written q) (sym its-state) its-written
+      parts-over : (n : ℕ) → n ≡ capped (parts_of (state P W kept.start)) → ltb 8192 n ≡ ltb most_parts (parts_of x.left)
+      parts-over n h =
+          ap (ltb 8192) h
+          ∙ (capped-over (parts_of (state P W kept.start)) ∙ ap (λ (s : State). ltb 8192 (parts_of s.left)) its-state)
 
-    pub state-number : Numbered (state_of P W ms kept) ss k
-    state-number = subst (λ (s : State). Numbered s ss k) (sym its-state) its-number
+      its-turns : (K' X' E F : List ℕ) (at : ℕ) (over : Bool) (n : ℕ) → Turns q (state_of P W ms kept) ss K' X' E F at over n → Turns q x ss K' X' E F at over n
+      its-turns K' X' E F at over n t = subst (λ (s : State). Turns q s ss K' X' E F at over n) its-state t
 
-    parts-over : (n : ℕ) → n ≡ capped (parts_of (state P W u.start)) → ltb 8192 n ≡ ltb most_parts (parts_of x.left)
-    parts-over n h =
-        ap (ltb 8192) h
-        ∙ (capped-over (parts_of (state P W u.start)) ∙ ap (λ (s : State). ltb 8192 (parts_of s.left)) its-state)
-
-    its-turns : (K' X' E F : List ℕ) (at : ℕ) (over : Bool) (n : ℕ) → Turns q (state_of P W ms kept) ss K' X' E F at over n → Turns q x ss K' X' E F at over n
-    its-turns K' X' E F at over n t = subst (λ (s : State). Turns q s ss K' X' E F at over n) its-state t
-
-    pub visited : (n : ℕ) → n ≡ capped (parts_of (state P W u.start)) → (K' X' E F : List ℕ) (at : ℕ) (t : Turned) → Turns q (state_of P W ms kept) ss K' X' E F at t.over t.count → Visited q x ss K' X' E F at (record { over = t.over; large = ltb 8192 n; count = t.count })
-    visited n h K' X' E F at t r = record { turns = its-turns K' X' E F at t.over t.count r; large_is = λ o. parts-over n h }
+      pub visited : (n : ℕ) → n ≡ capped (parts_of (state P W kept.start)) → (K' X' E F : List ℕ) (at : ℕ) (t : Turned) → Turns q (state_of P W ms kept) ss K' X' E F at t.over t.count → Visited q x ss K' X' E F at (record { over = t.over; large = ltb 8192 n; count = t.count })
+      visited n h K' X' E F at t r = record { turns = its-turns K' X' E F at t.over t.count r; large_is = λ o. parts-over n h }

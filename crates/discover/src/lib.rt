@@ -298,7 +298,8 @@ fn visit(
         → Visited q x S work.new index.new entries.old entries.new (k * (length modules.now + length events.now)) result }
 {
     let from = 128 * k;
-    let u = unpack(
+    // what was found is a code, so it is decoded
+    let Some(state) = unpack(
         nodes,
         weights,
         modules,
@@ -307,12 +308,8 @@ fn visit(
         &work[from..from + 128],
         w,
         tmp,
-    );
-    let stopped = u.stopped;
-    let state = State {
-        start: u.start,
-        memory: u.memory,
-        stopped,
+    ) else {
+        unreachable!()
     };
     let large = 8192 < parts_of(nodes, sizes, w, state.start);
     let n = modules.len() + events.len();

@@ -2,7 +2,7 @@
 -- event more (`memory-room`), and what is stored after a reaction are events of the program (`stored-known`). Assumes nothing.
 use Prim.Native.Nat.{ℕ, suc, ◌≤◌, ◌<◌}
 use mathlib.Core.Path.{◌≡◌, refl, sym, ap, subst, ◌∙◌}
-use mathlib.Core.Bool.{Bool, true, false, cond, not, ◌||◌}
+use mathlib.Core.Bool.{Bool, true, false, cond, ◌||◌}
 use mathlib.Core.List.{List, [], ◌∷◌}
 use native.Mathlib.Omega.{arith}
 use lib.Dec.{T, eqb}
@@ -27,14 +27,6 @@ use Rattle.pack.specs.Packing.{Packs}
 use Rattle.engine.specs.declared.Answer.{Answer}
 use Rattle.engine.specs.Live.{outcome, Loaded, Kinds, Stated, reacted_to}
 use Rattle.engine.proofs.Names.{among-module}
-
-pub not-true : (b : Bool) → not b ≡ true → b ≡ false
-not-true true e = sym e
-not-true false e = refl
-
-pub not-false : (b : Bool) → not b ≡ false → b ≡ true
-not-false true e = refl
-not-false false e = sym e
 
 -- ---- answers
 

@@ -165,17 +165,10 @@ fn turn(
 {
     let mut w = [0usize; 96];
     let mut tmp = [0usize; 96];
-    let u = unpack(
+    let Some(state) = unpack(
         nodes, weights, modules, events, fugitive, live, &mut w, &mut tmp,
-    );
-    if !u.found {
+    ) else {
         return refuse(23, 0);
-    }
-    let stopped = u.stopped;
-    let state = State {
-        start: u.start,
-        memory: u.memory,
-        stopped,
     };
     let known = letter_of(modules, events, letter);
     match known {
