@@ -26,8 +26,10 @@ Every public function, and the definitions that its contract cites, as `crate` `
 CRATES = [line.split(":")[0].split()[0] for line in (TOP / "crates.txt").read_text().splitlines() if line.strip() and not line.startswith("#")]
 
 # A function's head ends where its body begins, or where that ends if the head has no contract.
-FUNCTION = re.compile(r'^pub (?:extern "C" )?fn (\w+)(.*?)^[{}]', re.M | re.S)
-CLAUSE = re.compile(r"^    (requires|ensures)\b[^{\n]*\{", re.M)
+FUNCTION = re.compile(r'^( *)pub (?:extern "C" )?fn (\w+)(.*?)^\1[{}]', re.M | re.S)
+CLAUSE = re.compile(r"^ +(requires|ensures)\b[^{\n]*\{", re.M)
+# A method belongs to the type of the last `impl` above it.
+IMPL = re.compile(r"^impl(?:<[^>]*>)? (?:\w+(?:<[^>]*>)? for )?(\w+)", re.M)
 IMPORT = re.compile(r"^ghost use ([^;{]*?)(?:\.\{(.*?)\}| as (\S+));", re.M | re.S)
 NAME = re.compile(r"(?<![\w.])[A-Za-zα-ωΑ-Ω][\w'₀-₉-]*(?:\.[A-Za-z][\w-]*)?")
 
@@ -80,7 +82,10 @@ def rows():
         for file in sorted((TOP / "crates" / crate / "src").glob("*.rt")):
             text = file.read_text()
             known = imports(text)
-            for name, body in FUNCTION.findall(text):
+            for found in FUNCTION.finditer(text):
+                indent, name, body = found.groups()
+                if indent:
+                    name = f"{IMPL.findall(text[: found.start()])[-1]}::{name}"
                 clauses = clauses_of(body)
                 answer = " ".join(c for kind, c in clauses if kind == "ensures")
                 names = cited(answer, known)
