@@ -31,6 +31,7 @@ CLAUSE = re.compile(r"^ +(requires|ensures)\b[^{\n]*\{", re.M)
 # A method belongs to the type of the last `impl` above it.
 IMPL = re.compile(r"^impl(?:<[^>]*>)? (?:\w+(?:<[^>]*>)? for )?(\w+)", re.M)
 IMPORT = re.compile(r"^ghost use ([^;{]*?)(?:\.\{(.*?)\}| as (\S+));", re.M | re.S)
+PARAMETER = re.compile(r"[(,]\s*(?:mut )?(\w+): ")
 NAME = re.compile(r"(?<![\w.])[A-Za-zα-ωΑ-Ω][\w'₀-₉-]*(?:\.[A-Za-z][\w-]*)?")
 
 
@@ -88,7 +89,9 @@ def rows():
                     name = f"{IMPL.findall(text[: found.start()])[-1]}::{name}"
                 clauses = clauses_of(body)
                 answer = " ".join(c for kind, c in clauses if kind == "ensures")
-                names = cited(answer, known)
+                # a parameter's name hides what is brought in under it
+                hidden = PARAMETER.findall(re.split(r"^ +(?:requires|ensures)\b", body, maxsplit=1, flags=re.M)[0])
+                names = cited(answer, {name: place for name, place in known.items() if name not in hidden})
                 if not answer:
                     wrong.append(f"{crate}::{name} has no `ensures`")
                 asks = "asks" if any(kind == "requires" for kind, _ in clauses) else ""

@@ -2,7 +2,7 @@
 use Rattle.std.proofs.Common.{ℕ, ◌+◌, ◌/◌, ◌≤◌, ◌<◌, ◌≡◌, refl, sym, ap, ◌∙◌, Bool, true, false, not, ◌&&◌, List, length, MatchOption, arith}
 use mathlib.Core.Bool.{or-true}
 use lib.Dec.{eqb, leb}
-use borrow.Author.Tests.{ne_eqb, eqb-true, leb-true}
+use borrow.Author.Tests.{ne_eqb, eqb-true, eqb-false, leb-true}
 use Rattle.std.specs.Bool.{then_some}
 use Rattle.paper.specs.IsTable.{field, layout, state_count, bit_count, wrong_layout, wrong_count, wrong_length, is_table}
 use Rattle.layout.specs.Places.{place}
@@ -32,21 +32,22 @@ pub layout-no : (t : List ℕ) (x : ℕ) → x ≡ field t 0 4 → (x ≡ 1 → 
 unfolding wrong_layout layout
 layout-no t x e h = no-layout t (ap not (ne_eqb (field t 0 4) 1 (λ f. h (e ∙ f))))
 
-limits-no : (t : List ℕ) (c : Counts) → Read t c → in_limits c ≡ false → is_table t ≡ false
+pub limits-no : (t : List ℕ) (c : Counts) → Read t c → in_limits c ≡ false → is_table t ≡ false
 unfolding wrong_count
 limits-no t c r h = no-count t (ap not (sym (with-counts (λ m n s. leb m 8 && leb n 8 && leb s 512) t c r) ∙ h))
 
-length-no : (t : List ℕ) (c : Counts) → Read t c → eqb (length t) ((place c.modules c.events c.states 0 + 7) / 8) ≡ false → is_table t ≡ false
+pub length-no : (t : List ℕ) (c : Counts) → Read t c → (length t ≡ (place c.modules c.events c.states 0 + 7) / 8 → ⊥) → is_table t ≡ false
 unfolding wrong_length
-length-no t c r h = no_length t (ap not (ap (λ (n : ℕ). eqb (length t) ((n + 7) / 8)) (sym (with-counts (λ m n s. place m n s 0) t c r)) ∙ h))
+length-no t c r h =
+    no_length t (ap not (ne_eqb (length t) ((bit_count t + 7) / 8) (λ e. h (e ∙ ap (λ (n : ℕ). (n + 7) / 8) (sym (with-counts (λ m n s. place m n s 0) t c r))))))
 
-in-limits : (c : Counts) → in_limits c ≡ true → (c.modules ≤ 8) × ((c.events ≤ 8) × (c.states ≤ 512))
+pub in-limits : (c : Counts) → in_limits c ≡ true → (c.modules ≤ 8) × ((c.events ≤ 8) × (c.states ≤ 512))
 in-limits c h =
     let a = and_both (leb c.modules 8 && leb c.events 8) (leb c.states 512) h in
     let b = and_both (leb c.modules 8) (leb c.events 8) a.0 in
     (leb-true c.modules 8 b.0, (leb-true c.events 8 b.1, leb-true c.states 512 a.1))
 
-some_states : (t : List ℕ) (c : Counts) → Read t c → 1 ≤ c.states
+pub some_states : (t : List ℕ) (c : Counts) → Read t c → 1 ≤ c.states
 unfolding state_count
 some_states t c r = let s = r.states in omega arith
 
@@ -71,4 +72,4 @@ header_says t c r l false e = one (in_limits c) (eqb (length t) ((place c.module
   where
     one : (a b : Bool) → in_limits c ≡ a → eqb (length t) ((place c.modules c.events c.states 0 + 7) / 8) ≡ b → (a && b) ≡ false → is_table t ≡ false
     one false b p q e = limits-no t c r p
-    one true b p q e = length-no t c r (q ∙ e)
+    one true b p q e = length-no t c r (eqb-false (length t) ((place c.modules c.events c.states 0 + 7) / 8) (q ∙ e))

@@ -1,12 +1,14 @@
 -- The turn of a state that lies in the working slice: its bytes are its code, so what they are unpacked to is the state. Assumes nothing.
-use Prim.Native.Nat.{ℕ, zero, suc, ◌+◌, ◌-◌, ◌*◌, ◌<◌}
+use Prim.Native.Nat.{ℕ, zero, suc, ◌+◌, ◌-◌, ◌*◌, ◌≤◌, ◌<◌}
 use mathlib.Core.Path.{◌≡◌, refl, sym, ap, subst, ◌∙◌}
 use mathlib.Core.Bool.{Bool}
 use mathlib.Core.List.{List, [], ◌∷◌, map}
 use mathlib.Core.Option.{Option, none, some}
 use native.Mathlib.Omega.{arith}
+use native.Mathlib.Nat.{mul-le-mul, add-mul}
 use lib.Dec.{ltb}
 use lib.ListN.{length, get_or, take, drop, length-drop, length-map}
+use lib.Seq.{length-take-le}
 use Rattle.paper.specs.Reaction.{Program, State}
 use Rattle.paper.specs.Refusals.{most_parts, parts_of}
 use Rattle.paper.proofs.Choices.{clash}
@@ -27,9 +29,20 @@ use Rattle.discover.specs.declared.Turned.{Turned}
 use Rattle.discover.specs.Finding.{Numbered, Seen, Turns, Visited}
 use Rattle.discover.proofs.Arriving.{number-code}
 
+-- the entries of 512 states have room
+pub rows-room : (k n : ℕ) → k < 512 → n ≤ 16 → k * n + n ≤ 8192
+rows-room k n h l =
+    let m : k + 1 ≤ 512 = omega arith in
+    let a : (k + 1) * n ≤ 512 * 16 = mul-le-mul m l in
+    let b : (k + 1) * n ≡ k * n + 1 * n = add-mul k 1 n in
+    omega arith
+
 -- the part of the working slice that is handed over is a block
 pub part-block : (K : List ℕ) (k : ℕ) → take (128 * k + 128 - 128 * k) (drop (128 * k) K) ≡ block K k
 part-block K k = let z : 128 * k + 128 - 128 * k ≡ 128 = omega arith in ap (λ (n : ℕ). take n (drop (128 * k) K)) z
+
+pub part-long : (K : List ℕ) (k : ℕ) → 65536 ≤ length K → k < 512 → length (take (128 * k + 128 - 128 * k) (drop (128 * k) K)) ≡ 128
+part-long K k h l = ap length (part-block K k) ∙ length-take-le 128 (drop (128 * k) K) (omega (arith, length-drop (128 * k) K))
 
 has-drop : (k : ℕ) (ss : List State) (x : State) (rest : List State) → drop k ss ≡ x ∷ rest → Has x ss
 has-drop zero ss x rest e = subst (Has x) (sym e) (has-head x x rest (eq_s-refl x))

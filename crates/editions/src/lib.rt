@@ -3,10 +3,12 @@
 // (must-fail/): Basic's answer for either edition, and a file over 1,024 bytes taken for its first 1,024.
 #![tactic(auto)]
 
-ghost use Rattle.std.specs.Prelude.{◌≡◌, IfSome, OnOk};
+ghost use Rattle.std.specs.Prelude.{◌≡◌, ◌≤◌, length, IfSome, OnOk};
 ghost use Rattle.std.specs.Io.KnownBytes.{Appends};
 ghost use Rattle.paper.specs.Parse.{parse};
 ghost use Rattle.paper.specs.Calls.{compiled};
+ghost use Rattle.paper.specs.Programs.{answer_text};
+ghost use Rattle.printing.specs.Lines.{answer as made_of};
 ghost use Rattle.refusals.specs.Refusals.{edition_of};
 ghost use Rattle.compiler.specs.Compiling.{outcome};
 ghost use Rattle.editions.specs.Texts.{text_of, Prints};
@@ -25,23 +27,32 @@ fn compile(file: &[u8], edition: Edition, output: &mut [u8], work: &mut [u8]) ->
     }
 }
 
-// The answer's text, which is put into the line.
-fn text<'a>(file: &[u8], edition: Edition, line: &'a mut [u8; 53400]) -> &'a [u8]
-    ensures { result.now ≡ text_of (edition_of edition) file.now }
+// Prints what a compile answered, with its table. A function of its own, so that the line takes no stack while a file is compiled.
+#[inline(never)]
+fn print<W: Write>(output: &mut W, made: Compiled, table: &[u8]) -> io::Result<()>
+    requires { (made.size ≤ length table.now) × (length table.now ≤ 26640) }
+    ensures { OnOk result (Appends (W.contents output.old) (W.contents output.new) (answer_text (made_of made.number made.place made.states made.size table.now))) }
 {
-    let mut output = [0u8; 26640];
-    let mut work = [0u8; 65536];
-    let c = compile(file, edition, &mut output, &mut work);
-    let end = printing::text(c.number, c.place, c.states, c.size, &output, line);
-    &line[..end]
+    let mut line = [0u8; 53400];
+    let end = printing::text(
+        made.number,
+        made.place,
+        made.states,
+        made.size,
+        table,
+        &mut line,
+    );
+    output.write_all(&line[..end])
 }
 
 // Prints the answer to a file.
 pub fn answer<W: Write>(output: &mut W, file: &[u8], edition: Edition) -> io::Result<()>
     ensures { OnOk result (Appends (W.contents output.old) (W.contents output.new) (text_of (edition_of edition) file.now)) }
 {
-    let mut line = [0u8; 53400];
-    output.write_all(text(file, edition, &mut line))
+    let mut table = [0u8; 26640];
+    let mut work = [0u8; 65536];
+    let made = compile(file, edition, &mut table, &mut work);
+    print(output, made, &table)
 }
 
 // Reads a file and prints its answer. One byte more than a file may have is read, so that a longer one is refused, whatever else it holds: where the

@@ -19,8 +19,9 @@ use Rattle.fields.proofs.Bits.{bits_of-length, bits_of-append, bits_of-drop}
 use Rattle.fields.proofs.Packed.{packed-is}
 use Rattle.fields.proofs.Runs.{puts_then}
 use Rattle.fields.proofs.Unique.{bits-inj}
+use Rattle.layout.proofs.Places.{end-le}
 use Rattle.emit.specs.Entries.{Tells}
-use Rattle.emit.specs.Fills.{kind_bits, head_of, entry_word, filled}
+use Rattle.emit.specs.Fills.{Emits, kind_bits, head_of, entry_word, filled}
 use Rattle.emit.proofs.Told.{part_bits, told}
 
 bytes_drop : (n : ℕ) (s : List ℕ) → Bytes s → Bytes (drop n s)
@@ -54,6 +55,11 @@ packs d e bs k r hd he l h hk p =
     )
 
 -- ---- emit
+
+-- the last bit of any table lies within the room
+pub emit-end : {ms es : List ℕ} {states n o : ℕ} (at : ℕ) → Emits ms es states n o → at ≡ 24 + 6 * (length ms + length es)
+    → at + states * (length ms + length es) * (10 + 2 * length ms) ≤ 213112
+emit-end {ms} {es} {states} at h e = omega (arith, end-le (length ms) (length es) states h.few_modules h.few_events h.few_states)
 
 -- x is what the last writer leaves
 pub emitted : {u v₁ v₂ v₃ v₄ v₅ v₆ w : FieldWriter} {ms es rs ns x : List ℕ} {fs : List Bool} {states n₁ n₂ n₃ n₄ n₅ n₆ n₇ : ℕ}

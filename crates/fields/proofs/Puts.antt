@@ -150,6 +150,9 @@ put-lt x p on hx hp hon =
 pub place : (bit : ℕ) → bit / 8 * 8 + bit % 8 ≡ bit
 place bit = omega arith
 
+pub one_up : (p : ℕ) → p < 8 → 1 ≤ (1 * 2 ^ p) % 2 ^ 64
+one_up p hp = subst (λ (n : ℕ). 1 ≤ n) (sym (shl_exact 1 p 64 (lit< tt) (omega arith) ∙ one-mul (2 ^ p))) (pow_pos p)
+
 pub write-bit : (s : List ℕ) (bit on x y : ℕ) → bit < 8 * length s → on < 2 → x ≡ get_or s (bit / 8) 0 → y ≡ put_bit x (7 - bit_and bit 7) on
     → bits_of (set s (bit / 8) y) ≡ set (bits_of s) bit on
 write-bit s bit on x y h ho e f =

@@ -7,9 +7,9 @@ use native.Mathlib.Nat.{one-mul, add-zero}
 use native.Mathlib.Omega.{arith}
 use lib.ListN.{length, get_or, take, drop, replicate, length-append, length-drop, length-replicate}
 use lib.Seq.{drop-cons, drop-drop, take-append-le, drop-append-le}
-use lib.Pow.{shl_exact, shr-shr}
-use lib.Dec.{lit<}
-use lib.Bits.{bit_and, and_mask}
+use lib.Pow.{pow_pos, shl_exact, shr-shr}
+use lib.Dec.{lit<, lit≤}
+use lib.Bits.{bit_and, bit_or, and_mask, or_shifted}
 use Rattle.std.specs.Int.{w64, from_be_bytes}
 use Rattle.paper.specs.Lists.{gather}
 use Rattle.paper.specs.Table.{bits}
@@ -92,6 +92,9 @@ field-window k s i j w hb hj h =
 pub ones : (w : ℕ) → w < 64 → (1 * 2 ^ w) % 2 ^ 64 ≡ 2 ^ w
 ones w h = shl_exact 1 w 64 (lit< tt) (omega arith) ∙ one-mul (2 ^ w)
 
+pub ones_pos : (w : ℕ) → w < 64 → 1 ≤ (1 * 2 ^ w) % 2 ^ 64
+ones_pos w h = subst (λ (n : ℕ). 1 ≤ n) (sym (ones w h)) (pow_pos w)
+
 pub get-field : (s : List ℕ) (bit w x : ℕ) → Bytes s → w ≤ 32 → bit + w ≤ 8 * length s → x ≡ window 8 s (bit / 8)
     → bit_and (x / 2 ^ (63 - bit_and bit 7 - w) / 2) ((1 * 2 ^ w) % 2 ^ 64 - 1) ≡ field s bit w
 get-field s bit w x hb hw h ex =
@@ -103,6 +106,18 @@ get-field s bit w x hb hw h ex =
     ∙ ap (λ (n : ℕ). n % 2 ^ w) (shr-shr x (63 - j - w) 1 ∙ ap₂ (λ (y n : ℕ). y / 2 ^ n) ex f)
     ∙ sym (field-window 8 s (bit / 8) j w hb (omega arith) (omega arith))
     ∙ ap (λ (n : ℕ). field s n w) e
+
+-- one byte more, by a shift
+pub join-byte : (h b x : ℕ) → h < 2 ^ 56 → b < 256 → x ≡ b → bit_or ((h * 2 ^ 8) % 2 ^ 64) x ≡ h * 256 + b
+join-byte h b x hh hb e = ap₂ bit_or (shl_exact 56 8 64 hh (lit≤ tt)) e ∙ or_shifted h 8 b hb
+
+-- the window of eight bytes, written out
+pub window-eight : (s : List ℕ) (at : ℕ) → window 8 s at
+    ≡ ((((((get_or s at 0 * 256 + get_or s (at + 1) 0) * 256 + get_or s (at + 2) 0) * 256 + get_or s (at + 3) 0) * 256 + get_or s (at + 4) 0) * 256 + get_or s (at + 5) 0) * 256 + get_or s (at + 6) 0) * 256 + get_or s (at + 7) 0
+unfolding window
+window-eight s at =
+    let e : 0 * 256 + get_or s (at + 0) 0 ≡ get_or s at 0 = omega (arith, ap (λ (n : ℕ). get_or s n 0) (add-zero at)) in
+    ap (λ (x : ℕ). ((((((x * 256 + get_or s (at + 1) 0) * 256 + get_or s (at + 2) 0) * 256 + get_or s (at + 3) 0) * 256 + get_or s (at + 4) 0) * 256 + get_or s (at + 5) 0) * 256 + get_or s (at + 6) 0) * 256 + get_or s (at + 7) 0) e
 
 -- eight bytes as one number are the window where they stand
 pub window-bytes : (s bs : List ℕ) (at : ℕ) → ((k : ℕ) → k < 8 → get_or bs k 0 ≡ get_or s (at + k) 0) → from_be_bytes w64 bs ≡ window 8 s at

@@ -1,9 +1,10 @@
 -- How tests go together: what `not`, `&&` and `||` tell of their parts. By cases. Assumes nothing.
 use Prim.Native.Nat.{ℕ, ◌+◌}
-use mathlib.Core.Path.{◌≡◌, refl, sym, ap, ◌∙◌}
+use mathlib.Core.Path.{◌≡◌, refl, sym, ap, ap₂, ◌∙◌}
 use mathlib.Core.Bool.{Bool, true, false, cond, not, ◌&&◌, ◌||◌}
 use mathlib.Core.Logic.{◌⊎◌, inl, inr}
 use native.Mathlib.Numerals.{add-one}
+use borrow.Author.Tests.{not-true, not-false}
 use lib.Dec.{leb, ltb, leb-zero}
 
 pub not-not : (b : Bool) → not (not b) ≡ b
@@ -46,8 +47,18 @@ pub least-test : (b : Bool) (prev name : ℕ) → (b || ltb prev name) ≡ leb (
 least-test true prev name = sym (leb-zero name)
 least-test false prev name = ap (λ (n : ℕ). leb n name) (sym (add-one prev))
 
+pub third : (a b c : Bool) → a ≡ true → b ≡ true → c ≡ (a && b && c)
+third a b c h g = sym (ap₂ (λ (x y : Bool). x && y && c) h g)
+
 pub second : (a b c : Bool) → a ≡ true → c ≡ b → c ≡ (a && b)
 second a b c h g = g ∙ sym (ap (λ (x : Bool). x && b) h)
 
 pub first-fails : (a b : Bool) → a ≡ false → false ≡ (a && b)
 first-fails a b h = sym (ap (λ (x : Bool). x && b) h)
+
+-- what a part of the check answers, and the code's test of it
+pub broken : (r b : Bool) → r ≡ not b → not r ≡ true → b ≡ true
+broken r b e h = not-false b (sym e ∙ not-true r h)
+
+pub kept : (r b : Bool) → r ≡ not b → not r ≡ false → not b ≡ true
+kept r b e h = sym e ∙ not-false r h

@@ -3,14 +3,19 @@
 // PLACE`, then a space and the bytes of the live state after the call, in hex. A frame that is cut short ends the run.
 #![tactic(auto)]
 
+ghost use Rattle.std.specs.Prelude.{◌≤◌, length};
+
 use arrayvec::ArrayVec;
 use engine::Answer;
+use hex::encode_to_slice;
 use std::io;
 use std::io::{Read, Write};
 use streams::Call;
 
-// A live state has 255 bytes at most.
-fn print_live<W: Write>(output: &mut W, answer: Answer, live: &[u8]) -> io::Result<()> {
+// The digits are put all at once: byte by byte they took half of the program's time.
+fn print_live<W: Write>(output: &mut W, answer: Answer, live: &[u8]) -> io::Result<()>
+    requires { length live.now ≤ 255 }
+{
     let mut line = ArrayVec::<u8, 576>::new();
     if answer.number != 0 {
         write!(line, "refused {} at {}", answer.number, answer.place)?;
@@ -20,9 +25,12 @@ fn print_live<W: Write>(output: &mut W, answer: Answer, live: &[u8]) -> io::Resu
         }
     }
     line.write_all(b" ")?;
-    for byte in live {
-        write!(line, "{byte:02x}")?;
-    }
+    let mut digits = [0u8; 510];
+    let digits = &mut digits[..2 * live.len()];
+    let Ok(()) = encode_to_slice(live, digits) else {
+        unreachable!()
+    };
+    line.write_all(digits)?;
     line.write_all(b"\n")?;
     output.write_all(line.as_slice())
 }

@@ -1,17 +1,33 @@
--- Bytes written one after the other from a place on, into zeros. And a list of bytes is that of the layout, if it has each of its parts.
+-- Bytes written one after the other from a place on: none yet, one more, and into zeros all. And a list of bytes is that of the layout, if it has each of its parts.
 -- Assumes nothing.
 use Prim.Native.Nat.{ℕ, ◌+◌, ◌-◌, ◌≤◌, ◌<◌}
 use mathlib.Core.List.{List}
-use mathlib.Core.Path.{◌≡◌, sym, ◌∙◌}
+use mathlib.Core.Path.{◌≡◌, refl, ap, sym, ◌∙◌}
 use native.Mathlib.Omega.{arith}
 use lib.ListN.{length, get_or, set}
-use lib.Seq.{ext_get_or}
+use lib.Seq.{get_or-set_same, get_or-set_other, ext_get_or}
 use Rattle.words.proofs.Marks.{by-lt}
 use Rattle.coding.specs.Layout.{low, high, pair, bytes_of}
 use Rattle.coding.proofs.Bytes.{bytes-long, at_low, at_high, at_count, at_set, at_pair, at-spare}
 use Rattle.pack.specs.Packing.{Wrote}
 
+pub wrote_none : (f : ℕ → ℕ) (a : ℕ) (b : List ℕ) → Wrote f a 0 b b
+wrote_none f a b = record { there = λ i h. absurd (omega arith); before = λ i h. refl; behind = λ i h. refl }
+
 module _ {f : ℕ → ℕ} {a n : ℕ} {b b' : List ℕ} (w : Wrote f a n b b') where
+  pub wrote-more : (at v : ℕ) → at ≡ a + n → at < length b' → v ≡ f n → Wrote f a (n + 1) b (set b' at v)
+  wrote-more at v q h e = record {
+    there =
+        λ i k.
+        by-lt i n (λ l. get_or-set_other b' at (a + i) v 0 (λ z. omega arith) ∙ w.there i l)
+        (λ l.
+        let z : i ≡ n = omega arith in
+        let y : a + i ≡ at = omega arith in
+        ap (λ (j : ℕ). get_or (set b' at v) j 0) y ∙ (get_or-set_same b' at v 0 h ∙ (e ∙ ap f (sym z))));
+    before = λ i k. get_or-set_other b' at i v 0 (λ z. omega arith) ∙ w.before i k;
+    behind = λ i k. get_or-set_other b' at i v 0 (λ z. omega arith) ∙ w.behind i (omega arith);
+  }
+
   -- f is zero from n on, and so are the bytes that it would stand in: all of them are f's
   pub wrote-all : (z : ℕ) → ((i : ℕ) → n ≤ i → f i ≡ 0) → ((i : ℕ) → a + n ≤ i → i < z → get_or b i 0 ≡ 0) → (i : ℕ) → a + i < z → get_or b' (a + i) 0 ≡ f i
   wrote-all z zero-f zero-b i h =

@@ -15,6 +15,7 @@ use Rattle.words.specs.declared.Unit.{Unit as Given}
 use Rattle.words.specs.declared.Unit.TheVariants.{Sequence, Act}
 use Rattle.words.specs.Unit.{unit_mark}
 use Rattle.words.specs.Word.{Mark, u_seq, u_star, u_act, u_wait, u_one, u_par, u_mod, mark, apply, terms, Fine, Right}
+use Rattle.words.proofs.Marks.{by-lt, mark-star, mark-one, mark-par, mark-mod}
 use Rattle.rewrite.specs.Steps.{left_of, state, Stands}
 use Rattle.parts.specs.Parts.{capped, node_parts, Counted, unit_parts, all_parts, Meant}
 use Rattle.parts.proofs.Rows.{term-parts, intr-parts}
@@ -48,6 +49,18 @@ module _ {P ns : List ℕ} {j : ℕ} (t : Counted P ns) where
 
   pub wait-adds : Meant P (u_wait j) → capped (2 + get_or ns j 0) ≡ capped (unit_parts P (u_wait j))
   wait-adds m = let n = wait-node P j m in omega (arith, t.counts j n.0, n.1)
+
+pub star-adds : (P : List ℕ) (u : ℕ) → 192 ≤ u → u < 384 → 1 ≡ capped (unit_parts P (mark u))
+unfolding unit_parts
+star-adds P u l h = rw (mark-star u l h)
+
+-- `1`, `||` and a module
+pub leaf-adds : (P : List ℕ) (u : ℕ) → 768 ≤ u → 1 ≡ capped (unit_parts P (mark u))
+unfolding unit_parts
+leaf-adds P u h =
+    by-lt u 769 (λ l. let q : u ≡ 768 = omega arith in rw (q, mark-one)) λ l.
+    by-lt u 770 (λ g. let q : u ≡ 769 = omega arith in rw (q, mark-par)) λ g.
+    rw (mark-mod u g)
 
 -- ---- the parts of the terms
 parts-unit : (P : List ℕ) (k : Mark) (st : List Term) → Fine P k st → all_parts (apply P k st) ≡ unit_parts P k + all_parts st

@@ -47,7 +47,7 @@ pub fn count_parts(nodes: &[u8], sizes: &mut [usize])
     ensures { Counted nodes.now sizes.new }
 {
     for i in 0..words::count(nodes) {
-        sizes[i] = node_parts(words::node(nodes, i), sizes);
+        sizes[i] = node_parts(words::node_at(nodes, i), sizes);
     }
 }
 

@@ -1,4 +1,5 @@
-// A program as the engine holds it: its nodes, each with the numbers of its parts, which stand below it; and what else is read of a file.
+// A program's nodes, each with the numbers of its parts, which stand below it; and what else is read of a file. The rooms above match on `Node`; nothing
+// takes `Nodes` and `Program` yet.
 #![tactic(auto)]
 
 ghost use Rattle.std.specs.Prelude.{◌≡◌, ◌≤◌, ◌<◌, ◌↔◌, IsTrue};

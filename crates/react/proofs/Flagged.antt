@@ -9,7 +9,7 @@ use native.Mathlib.Numerals.{add-one}
 use native.Mathlib.Omega.{arith}
 use lib.Dec.{eqb}
 use lib.ListN.{length, get_or, take, set, replicate, length-map, length-take, get_or-replicate, get_or-append, get_or-eq_default}
-use lib.Seq.{take-suc, length-take-le, get_or-take, get_or-append-add}
+use lib.Seq.{take-suc, take_all, length-take-le, get_or-take, get_or-append-add}
 use borrow.Author.Tests.{eq-eqb, ne_eqb}
 use mir.Val.{bool_byte}
 use Rattle.paper.specs.Lists.{with_if, has, keep, from, below}
@@ -169,3 +169,6 @@ eight-more g ms i v o e f h l =
     let t : take (i + 1) ms ≡ take i ms ++ (get_or ms i 0 ∷ []) = ap (λ (k : ℕ). take k ms) (add-one i) ∙ take-suc ms i 0 h in
     ap₂ (λ (x : List ℕ) (y : ℕ). set x i y) e f
     ∙ (eight-set (map g (take i ms)) i (g (get_or ms i 0)) n (omega arith) ∙ ap eight (sym (ap (map g) t ∙ map-append g (take i ms) (get_or ms i 0 ∷ []))))
+
+pub eight-all : (g : ℕ → ℕ) (ms : List ℕ) (i : ℕ) (o : List ℕ) → o ≡ eight (map g (take i ms)) → length ms ≤ i → o ≡ eight (map g ms)
+eight-all g ms i o e h = e ∙ ap (λ (l : List ℕ). eight (map g l)) (take_all i ms h)

@@ -7,7 +7,7 @@ use mathlib.Core.Path.{◌≡◌, refl, ap, sym, ◌∙◌}
 use native.Mathlib.Numerals.{add-one}
 use native.Mathlib.Omega.{arith}
 use lib.Dec.{eqb}
-use lib.ListN.{length, drop, get_or, set, replicate, length-set, get_or-replicate}
+use lib.ListN.{length, drop, get_or, set, length-set}
 use lib.Seq.{drop-cons, get_or-set_same, get_or-set_other}
 use borrow.Author.Tests.{eqb-true, eqb-false}
 use Rattle.paper.specs.Term.{Term}
@@ -28,12 +28,12 @@ pub record Seen (P U : List ℕ) (flags : List Bool) (i : ℕ) : Type 0 where
   pub wide : length flags ≡ 26
   pub so_far : (m : ℕ) → m < 26 → (get_or flags m false || any_runs m (terms P (drop i U))) ≡ any_runs m (terms P U)
 
-pub seen_none : (P U : List ℕ) → Right P U → Seen P U (replicate 26 false) 0
-seen_none P U r = record {
+pub seen_none : (P U : List ℕ) (flags : List Bool) → Right P U → length flags ≡ 26 → ((m : ℕ) → m < 26 → get_or flags m false ≡ false) → Seen P U flags 0
+seen_none P U flags r w z = record {
   within = omega arith;
   right = r;
-  wide = refl;
-  so_far = λ m k. ap (λ (b : Bool). b || any_runs m (terms P U)) (get_or-replicate 26 m false false k);
+  wide = w;
+  so_far = λ m k. ap (λ (b : Bool). b || any_runs m (terms P U)) (z m k);
 }
 
 its_module : (k : Given) (m : ℕ) → unit_mark k ≡ u_mod m → k ≡ Module m

@@ -15,32 +15,37 @@ use std::io::{Read, Write};
 
 type Line = ArrayVec<u8, 512>;
 
+// One byte more, as long as there is room: what is read of a program takes half a line at most.
+fn push_byte(line: &mut Line, byte: u8) {
+    if !line.is_full() {
+        line.push(byte);
+    }
+}
+
 // A space and the names, from the letter `base` on; `-` where there is none.
-fn put_names(line: &mut Line, names: Names, base: u8) -> io::Result<()>
+fn put_names(line: &mut Line, names: Names, base: u8)
     requires { base < 128 }
 {
-    line.write_all(b" ")?;
+    push_byte(line, b' ');
     if names.count == 0 {
-        return line.write_all(b"-");
+        push_byte(line, b'-');
     }
     for letter in names.letters.into_iter().take(names.count) {
-        line.write_all(&[base + letter % 26])?;
+        push_byte(line, base + letter % 26);
     }
-    Ok(())
 }
 
 // The same of the letters whose flag is set.
-fn put_flags(line: &mut Line, flags: [bool; 26]) -> io::Result<()> {
-    line.write_all(b" ")?;
+fn put_flags(line: &mut Line, flags: [bool; 26]) {
+    push_byte(line, b' ');
     if !flags.contains(&true) {
-        return line.write_all(b"-");
+        push_byte(line, b'-');
     }
     for (letter, flag) in (b'A'..=b'Z').zip(flags) {
         if flag {
-            line.write_all(&[letter])?;
+            push_byte(line, letter);
         }
     }
-    Ok(())
 }
 
 // A node's own letter or mark.
@@ -60,37 +65,37 @@ fn mark_of(node: Node) -> u8 {
 }
 
 // Node i in postorder, at most `depth` nodes deep.
-fn put_node(line: &mut Line, nodes: &[u8; 768], i: usize, depth: usize) -> io::Result<()> {
+fn put_node(line: &mut Line, nodes: &[u8; 768], i: usize, depth: usize) {
     if depth == 0 {
-        return Ok(());
+        return;
     }
-    let node = words::node(nodes, i % 192);
+    let node = words::node_at(nodes, i % 192);
     match node {
         Node::Module(_) | Node::One | Node::Event(_) => {}
-        Node::Star(part) => put_node(line, nodes, usize::from(part), depth - 1)?,
+        Node::Star(part) => put_node(line, nodes, usize::from(part), depth - 1),
         Node::Treat(event, part) => {
-            line.write_all(&[b'A' + event % 26])?;
-            put_node(line, nodes, usize::from(part), depth - 1)?;
+            push_byte(line, b'A' + event % 26);
+            put_node(line, nodes, usize::from(part), depth - 1);
         }
         Node::Sequence(left, right)
         | Node::Par(left, right)
         | Node::Act(left, right)
         | Node::Either(left, right)
         | Node::Both(left, right) => {
-            put_node(line, nodes, usize::from(left), depth - 1)?;
-            put_node(line, nodes, usize::from(right), depth - 1)?;
+            put_node(line, nodes, usize::from(left), depth - 1);
+            put_node(line, nodes, usize::from(right), depth - 1);
         }
     }
-    line.write_all(&[mark_of(node)])
+    push_byte(line, mark_of(node));
 }
 
 fn put_program(line: &mut Line, program: Program, nodes: &[u8; 768]) -> io::Result<()> {
     line.write_all(b"read")?;
-    put_names(line, program.modules, b'a')?;
-    put_names(line, program.events, b'A')?;
-    put_flags(line, program.fugitive)?;
-    line.write_all(b" ")?;
-    put_node(line, nodes, program.root, 192)?;
+    put_names(line, program.modules, b'a');
+    put_names(line, program.events, b'A');
+    put_flags(line, program.fugitive);
+    push_byte(line, b' ');
+    put_node(line, nodes, program.root, 192);
     line.write_all(b"\n")
 }
 

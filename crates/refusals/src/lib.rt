@@ -1,4 +1,4 @@
-// Why a call refuses, and where: the error of the whole house. And the two editions, which refuse differently.
+// Why a call refuses, and where: the error of the table's calls. And the two editions, which refuse differently.
 #![tactic(auto)]
 
 ghost use Rattle.std.specs.Prelude.{◌≡◌};
@@ -93,7 +93,7 @@ impl From<Reason> for Refusal {
     }
 }
 
-// As the programs print it: `refused NUMBER at PLACE`.
+// `refused NUMBER at PLACE`, the words that the programs print for a compile.
 impl fmt::Display for Refusal {
     fn fmt<W: fmt::Write>(&self, f: &mut fmt::Formatter<W>) -> fmt::Result {
         write!(f, "refused {} at {}", self.reason.number(), self.place)

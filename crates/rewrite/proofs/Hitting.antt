@@ -13,7 +13,7 @@ use Rattle.program.specs.declared.Node.TheVariants as node
 use Rattle.laws.specs.Weight.{weight, weight_i, room}
 use Rattle.words.specs.declared.Unit.TheVariants.{Wait}
 use Rattle.words.specs.Word.{mark, apply, Fine, Holds}
-use Rattle.words.specs.Pieces.{node_of, Cols, Put, Asks, Drawn, Made}
+use Rattle.words.specs.Pieces.{node_of, Says, Put, Asks, Drawn, Made}
 use Rattle.words.proofs.Marks.{mark-number}
 use Rattle.words.proofs.Trees.{intr-event}
 use Rattle.words.proofs.Holding.{nothing, front}
@@ -26,19 +26,19 @@ drawn-made t d = record { held = d.held; fits = d.fits }
 
 module _ {P : List ℕ} {i e n : ℕ} (f : Hits P i e n) where
   -- `E:T`
-  pub asks-treat : {a t : ℕ} → Cols P i (node.Treat a t) → Asks P t e n
+  pub asks-treat : {a t : ℕ} → Says P i (node.Treat a t) → Asks P t e n
   unfolding weight_i
   asks-treat {a} {t} c =
       let b = below_i i f.table.nodes (λ z. omega (arith, c.0)) in
       let s : room_i (Treat a (tree P t)) ≤ e = rw (is-treat i f.table.nodes c) at f.space in
       record { table = f.table; here = omega (arith, f.here, c.2, f.table.nodes.righter i); term = rw c.2 at (f.table.nodes.of_treat i f.here c.0); space = s; top = f.top }
 
-  pub hit-treat : {a t : ℕ} {D D₁ : List ℕ} {r : ℕ} (x : Letter) → Cols P i (node.Treat a t) → Drawn P D D₁ e r (tree P t) → Made P D D₁ e r (room_i (intr P i)) (hit x (intr P i))
+  pub hit-treat : {a t : ℕ} {D D₁ : List ℕ} {r : ℕ} (x : Letter) → Says P i (node.Treat a t) → Drawn P D D₁ e r (tree P t) → Made P D D₁ e r (room_i (intr P i)) (hit x (intr P i))
   unfolding weight_i hit
   hit-treat {a} {t} x c h = rw (is-treat i f.table.nodes c) (drawn-made (tree P t) h)
 
   -- `|`
-  pub hits-either : {l q : ℕ} → Cols P i (node.Either l q) → Hits P l e n × Hits P q e n × (l < i) × (q < i)
+  pub hits-either : {l q : ℕ} → Says P i (node.Either l q) → Hits P l e n × Hits P q e n × (l < i) × (q < i)
   unfolding weight_i
   hits-either {l} {q} c =
       let b = below_i i f.table.nodes (λ z. omega (arith, c.0)) in
@@ -50,16 +50,16 @@ module _ {P : List ℕ} {i e n : ℕ} (f : Hits P i e n) where
         omega (arith, c.2),
       )
 
-  pub hit-either-l : {l q : ℕ} {D D₁ : List ℕ} {r : ℕ} {v : Bool} (x : Letter) → Cols P i (node.Either l q) → v ≡ strikes x (intr P l) → v ≡ true → Made P D D₁ e r (room_i (intr P l)) (hit x (intr P l)) → Made P D D₁ e r (room_i (intr P i)) (hit x (intr P i))
+  pub hit-either-l : {l q : ℕ} {D D₁ : List ℕ} {r : ℕ} {v : Bool} (x : Letter) → Says P i (node.Either l q) → v ≡ strikes x (intr P l) → v ≡ true → Made P D D₁ e r (room_i (intr P l)) (hit x (intr P l)) → Made P D D₁ e r (room_i (intr P i)) (hit x (intr P i))
   unfolding weight_i hit
   hit-either-l x c h t m = rw (is-either i f.table.nodes c, sym h ∙ t) (made_up (omega arith) m)
 
-  pub hit-either-r : {l q : ℕ} {D D₁ : List ℕ} {r : ℕ} {v : Bool} (x : Letter) → Cols P i (node.Either l q) → v ≡ strikes x (intr P l) → v ≡ false → Made P D D₁ e r (room_i (intr P q)) (hit x (intr P q)) → Made P D D₁ e r (room_i (intr P i)) (hit x (intr P i))
+  pub hit-either-r : {l q : ℕ} {D D₁ : List ℕ} {r : ℕ} {v : Bool} (x : Letter) → Says P i (node.Either l q) → v ≡ strikes x (intr P l) → v ≡ false → Made P D D₁ e r (room_i (intr P q)) (hit x (intr P q)) → Made P D D₁ e r (room_i (intr P i)) (hit x (intr P i))
   unfolding weight_i hit
   hit-either-r x c h t m = rw (is-either i f.table.nodes c, sym h ∙ t) (made_up (omega arith) m)
 
   -- `||`
-  pub hits-both : {l q : ℕ} → Cols P i (node.Both l q) → Hits P q e n × (room_i (intr P q) + room_i (intr P l) + 1 ≤ e) × (l < i) × (q < i)
+  pub hits-both : {l q : ℕ} → Says P i (node.Both l q) → Hits P q e n × (room_i (intr P q) + room_i (intr P l) + 1 ≤ e) × (l < i) × (q < i)
   unfolding weight_i
   hits-both {l} {q} c =
       let b = below_i i f.table.nodes (λ z. omega (arith, c.0)) in
@@ -71,14 +71,14 @@ module _ {P : List ℕ} {i e n : ℕ} (f : Hits P i e n) where
         omega (arith, c.2),
       )
 
-  pub hits-both-2 : {l q : ℕ} {D D₁ : List ℕ} {b n₂ : ℕ} {ρ : Left} → n₂ ≡ n → Cols P i (node.Both l q) → Made P D D₁ e b (room_i (intr P q)) ρ → Hits P l b n₂ × (room_i (intr P l) + 1 ≤ b)
+  pub hits-both-2 : {l q : ℕ} {D D₁ : List ℕ} {b n₂ : ℕ} {ρ : Left} → n₂ ≡ n → Says P i (node.Both l q) → Made P D D₁ e b (room_i (intr P q)) ρ → Hits P l b n₂ × (room_i (intr P l) + 1 ≤ b)
   hits-both-2 z c m =
       let o = rw (c.1, c.2) at (f.table.nodes.of_both i f.here c.0) in
       let s = hits-both c in
       (record { table = f.table; here = omega (arith, f.here, s.2); event = o.0; space = omega (arith, s.1, m.fits); top = omega (arith, f.top, m.held.long) }, omega (arith, s.1, m.fits))
 
   -- a side of `||` is `1/I` rewritten
-  pub hit-both : {l q : ℕ} {D D₁ : List ℕ} {r : ℕ} (x : Letter) → Cols P i (node.Both l q) → Made P D D₁ e r (room_i (intr P l) + room_i (intr P q) + 1) (par_l (rewritten x (Act One (intr P l))) (rewritten x (Act One (intr P q)))) → Made P D D₁ e r (room_i (intr P i)) (hit x (intr P i))
+  pub hit-both : {l q : ℕ} {D D₁ : List ℕ} {r : ℕ} (x : Letter) → Says P i (node.Both l q) → Made P D D₁ e r (room_i (intr P l) + room_i (intr P q) + 1) (par_l (rewritten x (Act One (intr P l))) (rewritten x (Act One (intr P q)))) → Made P D D₁ e r (room_i (intr P i)) (hit x (intr P i))
   unfolding weight_i hit rewritten
   hit-both x c m = rw (is-both i f.table.nodes c) (made_up (omega arith) m)
 

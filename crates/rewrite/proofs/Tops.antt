@@ -1,18 +1,19 @@
 -- The term at a place, by the unit there, and what a rewriting asks of its calls: the weight of a join has room for its unit and its parts.
 -- Assumes nothing.
-use Prim.Native.Nat.{ℕ, ◌+◌, ◌≤◌, ◌<◌}
-use mathlib.Core.List.{List}
+use Prim.Native.Nat.{ℕ, ◌+◌, ◌-◌, ◌≤◌, ◌<◌}
+use mathlib.Core.List.{List, []}
 use mathlib.Core.Path.{◌≡◌, ap, sym, ◌∙◌}
 use native.Mathlib.Omega.{arith}
 use lib.ListN.{get_or}
 use Rattle.paper.specs.Term.{Term, Left, Mod, One, Seq, Par, Star, Act}
 use Rattle.laws.specs.Nodes.{Nodes, kind, left, count, tree, intr}
 use Rattle.laws.specs.Weight.{weight, room}
-use Rattle.words.specs.Word.{u_seq, u_star, u_act, u_wait, u_one, u_par, u_mod, mark, arity, apply, Fine}
+use Rattle.words.specs.Word.{hd, u_seq, u_star, u_act, u_wait, u_one, u_par, u_mod, mark, arity, apply, Fine}
 use Rattle.words.specs.Pieces.{Drawn, Asks, top, Past, Made}
+use Rattle.words.proofs.Marks.{mark-star}
 use Rattle.words.proofs.Trees.{tree-star}
 use Rattle.words.proofs.Drawing.{weighs}
-use Rattle.words.proofs.Reading.{src-terms, src-fine, src-unary, src-binary, src-mid}
+use Rattle.words.proofs.Reading.{src-terms, src-fine, src-unary, src-binary, src-mid, leaf, leaf-top}
 use Rattle.rewrite.specs.Steps.{Works, Hits}
 
 module _ {P S : List ℕ} {s e n : ℕ} (f : Works P S s e n) where
@@ -24,7 +25,7 @@ module _ {P S : List ℕ} {s e n : ℕ} (f : Works P S s e n) where
   unfolding apply
   top-seq m = rw (src-terms P S s f.src, ← m)
 
-  fine-seq : {y : ℕ} → u_seq y ≡ mark unit → (y < count P) × (kind P y ≤ 5)
+  pub fine-seq : {y : ℕ} → u_seq y ≡ mark unit → (y < count P) × (kind P y ≤ 5)
   unfolding Fine
   fine-seq m = (rw (sym m) at (src-fine P S s f.src)).1
 
@@ -55,6 +56,10 @@ module _ {P S : List ℕ} {s e n : ℕ} (f : Works P S s e n) where
   works-star m =
       let g : room (Star (top P S (s + 1))) ≤ e = rw (top-star m) at f.space in
       (record { table = f.table; src = src-unary f.src (ap arity (sym m)); space = omega arith; top = f.top }, omega arith)
+
+  pub tree_again : 192 ≤ unit → unit < 384 → tree P (unit - 192) ≡ Star (top P S (s + 1))
+  tree_again l h =
+      let u = fine-star (sym (mark-star unit l h)) in tree-star P f.table.nodes (unit - 192) u.1.0 ∙ ap Star (sym u.1.1)
 
   pub asks-again : {j n₂ : ℕ} → n₂ ≡ n → u_star j ≡ mark unit → Asks P j e n₂
   asks-again {j} q m =
@@ -102,6 +107,9 @@ module _ {P S : List ℕ} {s e n : ℕ} (f : Works P S s e n) where
       (record { table = f.table; src = src-binary f.src (ap arity (sym m)); space = omega (arith, k.fits); top = omega (arith, f.top, k.held.long) }, omega (arith, k.fits))
 
   -- ## a unit without parts
+  pub room-leaf : 576 ≤ unit → (unit ≡ 769 → ⊥) → room (hd (apply P (mark unit) [])) ≤ e
+  room-leaf h k = rw (leaf-top f.src (leaf unit h k)) at f.space
+
   pub top-wait : {i : ℕ} → u_wait i ≡ mark unit → top P S s ≡ Act One (intr P i)
   unfolding apply
   top-wait m = rw (src-terms P S s f.src, ← m)

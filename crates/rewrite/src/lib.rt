@@ -110,7 +110,7 @@ fn hit(p: &[u8], i: usize, letter: Letter, dst: &mut [usize], e: usize) -> usize
     requires { Hits p.now i e (length dst.old) }
     ensures { Made p.now dst.old dst.new e result (room_i (intr p.now i)) (hit_by (letter_of letter) (intr p.now i)) }
 {
-    match words::node(p, i) {
+    match words::node_at(p, i) {
         Node::Treat(_, by) => words::expand(p, usize::from(by), dst, e),
         Node::Either(first, second) => {
             let first = usize::from(first);

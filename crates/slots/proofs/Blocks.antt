@@ -1,14 +1,33 @@
--- Blocks of a list of bytes: what a copy makes of them. For callers: at first none is held (`holds-none`).
+-- Blocks of a list of bytes: when one is b, what a copy makes of them. For callers: at first none is held (`holds-none`), each that is held has 128 bytes
+-- (`holds-long`).
 -- Assumes nothing.
 use Prim.Native.Nat.{ℕ, zero, suc, ◌+◌, ◌*◌, ◌≤◌, ◌<◌}
-use mathlib.Core.Path.{◌≡◌, refl, sym, ap, ◌∙◌}
+use mathlib.Core.Path.{◌≡◌, refl, sym, ap, subst, ◌∙◌}
+use mathlib.Core.Bool.{Bool, true, false}
 use mathlib.Core.List.{List, [], ◌∷◌, ◌++◌, append_assoc}
 use native.Mathlib.Nat.{suc-add, zero-add}
 use native.Mathlib.Omega.{arith}
-use lib.ListN.{length, get_or, take, drop}
+use lib.Dec.{T}
+use lib.ListN.{length, get_or, take, drop, length-drop}
 use lib.Seq.{drop-drop, take-take, take-nil, take_all, take_at, drop_at, length-take-le, paste}
 use Rattle.std.specs.Simd.{first_chunks}
+use Rattle.paper.specs.Lists.{eq_l}
+use Rattle.paper.proofs.Equal.{eq_l-sound, eq_l-refl}
 use Rattle.slots.specs.Slots.{block, last_below, Holds}
+
+-- ---- the test of equality
+
+pub test-true : (b c : List ℕ) → c ≡ b → true ≡ eq_l b c
+test-true b c e = known (eq_l b c) (subst (λ (x : List ℕ). T (eq_l b x)) (sym e) (eq_l-refl b)) where
+  known : (t : Bool) → T t → true ≡ t
+  known true h = refl
+  known false h = absurd h
+
+pub test-false : (b c : List ℕ) → (c ≡ b → ⊥) → false ≡ eq_l b c
+test-false b c d = known (eq_l b c) (λ h. d (sym (eq_l-sound b c h))) where
+  known : (t : Bool) → (T t → ⊥) → false ≡ t
+  known true h = absurd (h tt)
+  known false h = refl
 
 -- ---- the blocks of a list, n of them
 
@@ -18,6 +37,12 @@ chunk-is (suc n) W zero h = refl
 chunk-is (suc n) W (suc i) h =
     let e : 128 + 128 * i ≡ 128 * suc i = omega arith in
     chunk-is n (drop 128 W) i (omega arith) ∙ ap (take 128) (drop-drop (128 * i) 128 W ∙ ap (λ (k : ℕ). drop k W) e)
+
+-- ---- the bytes of a part
+
+module _ (W : List ℕ) (at : ℕ) (fits : at + 128 ≤ length W) where
+  pub part-long : length (take 128 (drop at W)) ≡ 128
+  part-long = length-take-le 128 (drop at W) (omega (arith, length-drop at W))
 
 -- ---- a copy behind the first n blocks
 
@@ -68,3 +93,6 @@ holds-none W X z = record {
   once = λ i h. absurd (omega arith);
   few = omega arith;
 }
+
+pub holds-long : {W X : List ℕ} {cs : List (List ℕ)} → 65536 ≤ length W → Holds W X cs → (i : ℕ) → i < length cs → length (get_or cs i []) ≡ 128
+holds-long {W} l s i h = ap length (sym (s.blocks i h)) ∙ part-long W (128 * i) (omega (arith, s.few))

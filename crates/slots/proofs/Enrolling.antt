@@ -56,6 +56,10 @@ module _ (cs : List (List ℕ)) (b : List ℕ) where
 -- ---- the three ways
 
 module _ {W X : List ℕ} {cs : List (List ℕ)} (s : Holds W X cs) (b : List ℕ) where
+  -- nothing was written
+  pub enrolls-kept : (r : Enrolled) → enrolled cs b ≡ cs → r.number ≡ number_in b cs → r.count ≡ length cs → Enrolls cs b W X r
+  enrolls-kept r e n k = record { number_is = n; count_is = k ∙ ap length (sym e); holds = rw e s }
+
   -- b is known, and nothing was written
   pub enrolls-known : (r : Enrolled) → r.number ≡ number_in b cs → r.number < r.count → length cs ≡ r.count → Enrolls cs b W X r
   enrolls-known r n l k =

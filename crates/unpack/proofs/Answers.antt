@@ -40,7 +40,7 @@ recalled : {b es : List ℕ} {m : Memory} → Recalls b es m → length m.events
 recalled r eight = memory-is r.leads r.remembers eight
 
 module _ {P vs ms es : List ℕ} {fs : List Bool} (g : Given P vs ms es) (b : List ℕ) (long : length b ≡ 128) (small : (i : ℕ) → get_or b i 0 < 256) (q : Program) (of : Of q P ms es fs) where
-  refusing : (Passed P ms es fs b → ⊥) → decode q b ≡ none
+  pub refusing : (Passed P ms es fs b → ⊥) → decode q b ≡ none
   refusing = refuses of g.modules g.events b long small
 
   -- each test that fails

@@ -1,12 +1,12 @@
 -- Letters that ascend stand once and are below 26; and a memory whose events are of the program is one of it exactly where it is fresh.
 -- Assumes nothing.
 use Prim.Native.Nat.{ℕ, zero, suc, ◌≤◌, ◌<◌}
-use mathlib.Core.Bool.{Bool, false, not, ◌&&◌}
+use mathlib.Core.Bool.{Bool, true, false, not, ◌&&◌}
 use mathlib.Core.List.{List, [], ◌∷◌}
 use mathlib.Core.Path.{◌≡◌, sym, subst, ◌∙◌}
 use native.Mathlib.Omega.{arith}
 use lib.Dec.{T, eqb, eqb→eq, eqb_refl, T_not, not_T}
-use lib.ListN.{length, get_or}
+use lib.ListN.{length, drop, get_or}
 use borrow.Author.Tests.{not-true}
 use Rattle.paper.specs.Lists.{has}
 use Rattle.paper.specs.Reaction.{Program}
@@ -36,6 +36,16 @@ has_get_d (x ∷ xs) zero h = has_here x x xs (eqb_refl x)
 has_get_d (x ∷ xs) (suc i) h = has_there (get_or xs i 0) x xs (has_get_d xs i (omega arith))
 
 -- ---- fresh
+
+pub fresh-drop : (fs : List Bool) (k : ℕ) (m : List ℕ) → T (fresh fs m) → T (fresh fs (drop k m))
+unfolding fresh
+fresh-drop fs zero m t = t
+fresh-drop fs (suc k) [] t = t
+fresh-drop fs (suc k) (e ∷ m) t = fresh-drop fs k m (and_right (not (has e m) && not (get_or fs e false)) (fresh fs m) t)
+
+pub fresh-cons : (fs : List Bool) (e : ℕ) (m : List ℕ) → has e m ≡ false → get_or fs e false ≡ false → fresh fs m ≡ true → fresh fs (e ∷ m) ≡ true
+unfolding fresh
+fresh-cons fs e m a b c = rw (a, b, c)
 
 module _ (q : Program) (fs : List Bool) (told : (e : ℕ) → e < 26 → get_or fs e false ≡ has e q.fugitive) where
   pub fresh-memory : (m : List ℕ) → ((e : ℕ) → T (has e m) → T (has e q.events) × (e < 26)) → T (fresh fs m) → Memory q m

@@ -2,9 +2,10 @@
 use Prim.Native.Nat.{ℕ, zero, suc, ◌+◌, ◌-◌, ◌*◌, ◌/◌, ◌%◌, ◌^◌, ◌≤◌, ◌<◌}
 use mathlib.Core.Bool.{Bool, true, false, not, ◌&&◌}
 use mathlib.Core.List.{List, [], ◌∷◌, map}
-use mathlib.Core.Path.{◌≡◌, refl, sym, ap, ◌∙◌}
+use mathlib.Core.Path.{◌≡◌, refl, sym, ap, subst, ◌∙◌}
 use native.Mathlib.Numerals.{add-one}
 use native.Mathlib.Omega.{arith}
+use lib.Dec.{T}
 use lib.Bits.{bit_and, and_mask}
 use lib.ListN.{length, drop, get_or, set, take, length-set, drop_of_length-le, length-drop}
 use lib.Pow.{shr-shr}
@@ -16,12 +17,15 @@ use lib.Seq.{ext_get_or, get_or-take, get_or-drop, take_all, drop-cons, get_or-s
 use borrow.Author.Tests.{lt-ltb}
 use Rattle.paper.specs.Lists.{has, below}
 use Rattle.laws.proofs.Has.{list_any-has}
+use Rattle.laws.proofs.Letters.{false-not}
 use Rattle.nodes.proofs.Choice.{by-eq}
 use Rattle.words.proofs.Marks.{by-lt}
+use Rattle.rewrite.proofs.Leading.{stored-cons}
 use Rattle.react.specs.States.{stopped_of, Flags}
 use Rattle.coding.specs.Layout.{unit_in, word_in, mark_in, set_of}
 use Rattle.coding.proofs.Bytes.{at-tab, length-tab}
 use Rattle.unpack.specs.Unpacking.{Leads, Limited, fresh}
+use Rattle.unpack.proofs.Letters.{fresh-drop, fresh-cons}
 
 -- ---- two bits of a byte, and half of one
 
@@ -113,6 +117,43 @@ module _ (fs : List Bool) (xs : List ℕ) (i : ℕ) (h : i < length xs) where
 pub fresh-none : (fs : List Bool) (xs : List ℕ) (i : ℕ) → length xs ≤ i → true ≡ fresh fs (drop i xs)
 unfolding fresh
 fresh-none fs xs i h = rw (drop_of_length-le xs {i = i} h)
+
+-- and of a memory of n events, from the end: at the i-th of them
+false_of : (b : Bool) → (T b → ⊥) → b ≡ false
+false_of true h = absurd (h tt)
+false_of false h = refl
+
+both-off : (a b : Bool) → ((a && false) && b) ≡ false
+both-off true b = refl
+both-off false b = refl
+
+module _ (fs : List Bool) (ev : List ℕ) (n i : ℕ) (h : 0 < i) (l : i ≤ n) (k : n ≤ length ev) where
+  abbrev last : ℕ
+  last = get_or ev (i - 1) 0
+
+  back : i - 1 + 1 ≡ i
+  back = omega arith
+
+  cons : drop (i - 1) (take n ev) ≡ last ∷ drop (i - 1 + 1) (take n ev)
+  cons = stored-cons ev n (i - 1) (omega arith) k
+
+  pub fresh-more : fresh fs (drop i (take n ev)) ≡ true → get_or fs last false ≡ false → false ≡ has last (drop (i - 1 + 1) (take n ev)) → fresh fs (drop (i - 1) (take n ev)) ≡ true
+  fresh-more a b c = rw cons (fresh-cons fs last (drop (i - 1 + 1) (take n ev)) (sym c) b (rw back a))
+
+  -- the test fails at the event at hand, so it fails of all
+  fails : (fresh fs (last ∷ drop (i - 1 + 1) (take n ev)) ≡ false) → false ≡ fresh fs (take n ev)
+  fails f = sym (false_of (fresh fs (take n ev)) (λ t. false-not (fresh fs (last ∷ drop (i - 1 + 1) (take n ev))) f (subst (λ (x : List ℕ). T (fresh fs x)) cons (fresh-drop fs (i - 1) (take n ev) t))))
+
+  pub all-fugitive : get_or fs last false ≡ true → false ≡ fresh fs (take n ev)
+  unfolding fresh
+  all-fugitive b = fails (rw b (both-off (not (has last (drop (i - 1 + 1) (take n ev)))) _))
+
+  pub all-twice : true ≡ has last (drop (i - 1 + 1) (take n ev)) → false ≡ fresh fs (take n ev)
+  unfolding fresh
+  all-twice c = fails (rw (sym c))
+
+pub fresh-all : (fs : List Bool) (i : ℕ) (m : List ℕ) → i ≤ 0 → fresh fs (drop i m) ≡ true → true ≡ fresh fs m
+fresh-all fs i m h e = let z : i ≡ 0 = omega arith in sym (subst (λ (x : ℕ). fresh fs (drop x m) ≡ true) z e)
 
 -- ---- the memory
 

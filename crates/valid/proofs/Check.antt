@@ -61,10 +61,10 @@ module _ (t : List ℕ) where
 
 -- ---- the names, the padding
 
-pub names_are : (t : List ℕ) (c : Counts) → Counted t c → (ascend t 0 c.modules && ascend t c.modules c.events) ≡ not (wrong_name t)
+pub names_are : (t : List ℕ) (c : Counts) → Read t c → (ascend t 0 c.modules && ascend t c.modules c.events) ≡ not (wrong_name t)
 unfolding wrong_name
 names_are t c h =
-    with-counts (λ m n s. ascend t 0 m && ascend t m n) t c h.read
+    with-counts (λ m n s. ascend t 0 m && ascend t m n) t c h
     ∙ sym (not-not (ascend t 0 (module_count t) && ascend t (module_count t) (event_count t)))
 
 pub padding_right : (t : List ℕ) (c : Counts) (end x : ℕ) → Read t c → end ≡ place c.modules c.events c.states 0

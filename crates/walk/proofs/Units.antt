@@ -174,7 +174,7 @@ module _ {P ms : List ℕ} {ts : List Term} where
   unfolding Fine apply weight
   par-is a b r d f s q = judged u_par r d (λ x z. clash cc) (omega (arith, ap (λ (us : List Term). weight (hd us)) (drop-one ts)))
 
-  module-is : (m : ℕ) → has m ms ≡ true → ((x : ℕ) → T (has x ms) → x < 26) → Judged P ms (u_mod m) ts (Some 1)
+  pub module-is : (m : ℕ) → has m ms ≡ true → ((x : ℕ) → T (has x ms) → x < 26) → Judged P ms (u_mod m) ts (Some 1)
   unfolding Fine apply weight
   module-is m h small =
       let t : T (has m ms) = rw h tt in

@@ -15,7 +15,7 @@ use Rattle.paper.specs.Term.{Term}
 use Rattle.laws.specs.Weight.{weight}
 use Rattle.words.specs.Word.{Mark, u_seq, u_star, u_act, u_wait, u_one, u_par, u_mod, mark, arity, hd, apply, terms, Right}
 use Rattle.words.proofs.Marks.{by-lt, mark-mod, unmark, unmark-mark}
-use Rattle.words.proofs.Reading.{drop-one, drop-two}
+use Rattle.words.proofs.Reading.{fine-deep, drop-one, drop-two}
 use Rattle.walk.specs.Judging.{Placed, May, Sound, Judged, Lights, Stacked, Behind}
 use Rattle.walk.proofs.Units.{lights-drop}
 
@@ -116,6 +116,10 @@ module _ {P ms W xs : List ℕ} (j : ℕ) (w : Walked P ms W (j + 1) xs) (long :
 
   pub walked-heavy : (s v : ℕ) → s ≤ j → Judged P ms (mark u) ts (Some v) → 96 < v → Sound P ms (drop s W) → ⊥
   walked-heavy s v h y k o = let l = (its-may s h o).light in omega (arith, y.1)
+
+  -- the unit's parts are there
+  pub fits : {v n : ℕ} → Judged P ms (mark u) ts (Some v) → n ≡ arity (mark u) → n ≤ length xs
+  fits y q = omega (arith, stack-long w, fine-deep P (mark u) ts y.0.fine)
 
   pub walked_more : (v : ℕ) (ys : List ℕ) → Judged P ms (mark u) ts (Some v) → v ≤ 96 → Stacked ys (drop (arity (mark u)) ts) → Walked P ms W j (ys ++ v ∷ [])
   unfolding Sound Lights terms

@@ -37,7 +37,7 @@ fn weigh_seq(p: &[u8], weights: &[u8], y: usize, a: usize) -> Option<usize>
     requires { Weighted p.now weights.now × ((y < 192) × (a ≤ 96)) }
     ensures { (ms : List ℕ) (ts : List Term) → 1 ≤ length ts → a ≡ weight (hd ts) → Judged p.now ms (u_seq y) ts result }
 {
-    if y < words::count(p) && words::node(p, y).is_term() {
+    if y < words::count(p) && words::node_at(p, y).is_term() {
         Some((a.max(1) + 1).max(usize::from(weights[y])))
     } else {
         None
@@ -60,7 +60,7 @@ fn weigh_star(
     if words::count(p) <= j {
         return None;
     }
-    let Node::Star(part) = words::node(p, j) else {
+    let Node::Star(part) = words::node_at(p, j) else {
         return None;
     };
     let part = usize::from(part);
@@ -77,7 +77,7 @@ fn weigh_act(p: &[u8], weights: &[u8], j: usize, a: usize, next: Unit) -> Option
     requires { Weighted p.now weights.now × ((j < 192) × (a ≤ 96)) }
     ensures { (ms : List ℕ) (ts : List Term) → 1 ≤ length ts → a ≡ weight (hd ts) → (hd ts ≡ One) ↔ (next ≡ Unit.One) → Judged p.now ms (u_act j) ts result }
 {
-    if j < words::count(p) && !words::node(p, j).is_term() && next != Unit::One {
+    if j < words::count(p) && !words::node_at(p, j).is_term() && next != Unit::One {
         Some((a + 1).max(usize::from(weights[j])))
     } else {
         None
@@ -89,7 +89,7 @@ fn weigh_wait(p: &[u8], weights: &[u8], j: usize) -> Option<usize>
     requires { Weighted p.now weights.now × (j < 192) }
     ensures { (ms : List ℕ) (ts : List Term) → Judged p.now ms (u_wait j) ts result }
 {
-    if j < words::count(p) && !words::node(p, j).is_term() {
+    if j < words::count(p) && !words::node_at(p, j).is_term() {
         Some(usize::from(weights[j]).max(1))
     } else {
         None

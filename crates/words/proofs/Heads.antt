@@ -3,7 +3,7 @@
 use Prim.Native.Nat.{ℕ, ◌<◌}
 use mathlib.Core.Bool.{Bool, true, false, ◌||◌}
 use mathlib.Core.List.{List}
-use mathlib.Core.Logic.{◌⊎◌, ⊎_elim}
+use mathlib.Core.Logic.{◌⊎◌, inl, inr, ⊎_elim}
 use mathlib.Core.Path.{◌≡◌, refl, ap, sym, ◌∙◌}
 use native.Mathlib.Nat.{pos_of_ne-zero}
 use native.Mathlib.Omega.{arith}
@@ -14,7 +14,7 @@ use Rattle.paper.specs.Running.{heads}
 use Rattle.laws.specs.Nodes.{Nodes, kind, left, right, letter, tree, intr}
 use Rattle.program.specs.declared.Node.{Node}
 use Rattle.program.specs.declared.Node.TheVariants as node
-use Rattle.words.specs.Pieces.{node_of, Cols}
+use Rattle.words.specs.Pieces.{node_of, Says}
 use Rattle.words.proofs.Marks.{clash}
 use Rattle.words.proofs.Trees.{intr-treat, intr-either, intr-both, intr-event}
 
@@ -32,13 +32,13 @@ or-false true b e = clash cc
 or-false false b e = refl
 
 module _ {P : List ℕ} (i : ℕ) (ns : Nodes P) where
-  pub is-either : {a b : ℕ} → Cols P i (node.Either a b) → intr P i ≡ Either (intr P a) (intr P b)
+  pub is-either : {a b : ℕ} → Says P i (node.Either a b) → intr P i ≡ Either (intr P a) (intr P b)
   is-either c = rw (← c.1, ← c.2) (intr-either P ns i c.0)
 
-  pub is-both : {a b : ℕ} → Cols P i (node.Both a b) → intr P i ≡ Both (intr P a) (intr P b)
+  pub is-both : {a b : ℕ} → Says P i (node.Both a b) → intr P i ≡ Both (intr P a) (intr P b)
   is-both c = rw (← c.1, ← c.2) (intr-both P ns i c.0)
 
-  pub is-treat : {e t : ℕ} → Cols P i (node.Treat e t) → intr P i ≡ Treat e (tree P t)
+  pub is-treat : {e t : ℕ} → Says P i (node.Treat e t) → intr P i ≡ Treat e (tree P t)
   is-treat c = rw (← c.1, ← c.2) (intr-treat P ns i c.0)
 
   -- any other node has its own letter at its head
@@ -52,7 +52,7 @@ module _ {P : List ℕ} (i : ℕ) (ns : Nodes P) where
           rw (q, intr-event P ns i (eqb-false (kind P i) 7 e) (λ z. n₈ (left P i) (right P i) (o ∙ rw z)) (λ z. n₉ (left P i) (right P i) (o ∙ rw z)))
 
 -- a join, whose heads are those of both its parts
-module _ {P : List ℕ} {a b : ℕ} {n : Node} (i : ℕ) (ns : Nodes P) (c : Cols P i n) (e : (n ≡ node.Either a b) ⊎ (n ≡ node.Both a b)) where
+module _ {P : List ℕ} {a b : ℕ} {n : Node} (i : ℕ) (ns : Nodes P) (c : Says P i n) (e : (n ≡ node.Either a b) ⊎ (n ≡ node.Both a b)) where
   pub join-below : (a < i) × (b < i)
   join-below = ⊎_elim (λ q. below 8 (rw q at c) (λ z. omega arith)) (λ q. below 9 (rw q at c) (λ z. omega arith)) e
     where
@@ -71,3 +71,18 @@ module _ {P : List ℕ} {a b : ℕ} {n : Node} (i : ℕ) (ns : Nodes P) (c : Col
   pub heads-right : (x k l : ℕ) {r s : Bool} → k ≡ a → l ≡ b → r ≡ heads x (intr P k) → r ≡ false → s ≡ heads x (intr P l) → s ≡ heads x (intr P i)
   heads-right x k l p q r t s =
       rw q at s ∙ sym (heads-join x ∙ or-false (heads x (intr P a)) (heads x (intr P b)) (rw p at (sym r ∙ t)))
+
+-- the test of a join by its kind: `|` or `||`, or neither
+module _ {k : ℕ} {b : Bool} (came : ((k ≡ 8) × (b ≡ eqb k 8)) ⊎ ((k ≡ 8 → ⊥) × (b ≡ eqb k 9))) where
+  pub is_join : b ≡ true → (k ≡ 8) ⊎ (k ≡ 9)
+  is_join t = ⊎_elim (λ w. inl w.0) (λ w. inr (eqb-true k 9 (sym w.1 ∙ t))) came
+
+  pub no-either : b ≡ false → k ≡ 8 → ⊥
+  no-either t = ⊎_elim (λ w z. eqb-false k 8 (sym w.1 ∙ t) z) (λ w. w.0) came
+
+  pub no_both : b ≡ false → k ≡ 9 → ⊥
+  no_both t = ⊎_elim (λ w z. eqb-false k 8 (sym w.1 ∙ t) w.0) (λ w. eqb-false k 9 (sym w.1 ∙ t)) came
+
+-- the same, where each of the two tests stands by itself
+pub joins-one : {k : ℕ} → (k ≡ 8) ⊎ ((k ≡ 8 → ⊥) × (k ≡ 9)) → (k ≡ 8) ⊎ (k ≡ 9)
+joins-one e = ⊎_elim (λ w. inl w) (λ w. inr w.1) e

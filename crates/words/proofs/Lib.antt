@@ -9,5 +9,6 @@ pub mod Joins
 pub mod Runs
 pub mod Heads
 pub mod Arms
+pub mod Comparing
 pub mod Distinct
 pub mod Concrete

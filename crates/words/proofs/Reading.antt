@@ -159,7 +159,7 @@ pub binary : (u : ℕ) → u ≡ 769 → arity (mark u) ≡ 2
 binary u e = rw (e, mark-par)
 
 module _ {P S : List ℕ} {s : ℕ} (src : Src P S s) where
-  src-next : 1 ≤ arity (mark (get_or S s 0)) → Src P S (s + 1)
+  pub src-next : 1 ≤ arity (mark (get_or S s 0)) → Src P S (s + 1)
   src-next h =
       record { right = src-right P S s src; deep = omega (arith, fine-deep P (mark (get_or S s 0)) (terms P (drop (s + 1) S)) (src-fine P S s src)) }
 

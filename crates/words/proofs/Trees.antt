@@ -13,7 +13,7 @@ use Rattle.laws.specs.Nodes.{Nodes, kind, left, right, letter, tree, intr, tree_
 use Rattle.program.specs.declared.Node.{Node}
 use Rattle.program.specs.declared.Node.TheVariants as node
 use Rattle.program.specs.Rows.{kind_in}
-use Rattle.words.specs.Pieces.{Cols}
+use Rattle.words.specs.Pieces.{Says}
 use Rattle.words.proofs.Marks.{by-lt, clash}
 
 module _ (P : List ℕ) (ns : Nodes P) where
@@ -98,7 +98,7 @@ module _ (P : List ℕ) (ns : Nodes P) where
   intr-event i a b c = rw (intr-is i, ne_eqb (kind P i) 7 a, ne_eqb (kind P i) 8 b, ne_eqb (kind P i) 9 c)
 
 -- the nodes of terms
-pub term-kind : (P : List ℕ) (j : ℕ) (n : Node) → Cols P j n → (kind_in n ≤ 5 → kind P j ≤ 5) × (kind P j ≤ 5 → kind_in n ≤ 5)
+pub term-kind : (P : List ℕ) (j : ℕ) (n : Node) → Says P j n → (kind_in n ≤ 5 → kind P j ≤ 5) × (kind P j ≤ 5 → kind_in n ≤ 5)
 term-kind P j (node.Module a) c = (λ h. omega (arith, c.0), λ h. omega arith)
 term-kind P j node.One c = (λ h. omega (arith, c), λ h. omega arith)
 term-kind P j (node.Sequence x y) c = (λ h. omega (arith, c.0), λ h. omega arith)
@@ -111,7 +111,7 @@ term-kind P j (node.Either i k) c = (λ h. absurd (omega arith), λ h. absurd (o
 term-kind P j (node.Both i k) c = (λ h. absurd (omega arith), λ h. absurd (omega (arith, c.0)))
 
 -- what the test of a term's node says of its kind
-module _ (P : List ℕ) (j : ℕ) (n : Node) {v : Bool} (c : Cols P j n) (e : IsTrue v ↔ (kind_in n ≤ 5)) where
+module _ (P : List ℕ) (j : ℕ) (n : Node) {v : Bool} (c : Says P j n) (e : IsTrue v ↔ (kind_in n ≤ 5)) where
   pub kind-of : v ≡ true → kind P j ≤ 5
   kind-of t = (term-kind P j n c).0 (e.0 t)
 

@@ -1,6 +1,7 @@
 -- What the functions on words ask, and what they leave.
 --     Table P               a table of nodes that the functions work on
---     node_of P j           node j, by its columns; `Cols P j n`: those of node j say n
+--     Cols P j k l q a      k, l, q, a are the columns of node j
+--     node_of P j           node j, by its columns; `Says P j n`: those of node j say n
 --     Put D N e r u         the unit u stands in front of place e, at r, and what follows is kept
 --     Faced D N e r i       `/` with the interruption i stands in front of the word at e, or in the place of its `1`
 --     Asks P j e n          node j is a term's, and its word has room below e in a list of n
@@ -24,6 +25,9 @@ pub record Table (P : List ℕ) : Type 0 where
   pub apart : Apart P
   pub named : (i : ℕ) → i < count P → kind P i ≡ 0 → letter P i < 26
 
+abbrev pub Cols : List ℕ → ℕ → ℕ → ℕ → ℕ → ℕ → Type 0
+Cols P j k l q a = (k ≡ kind P j) × ((l ≡ left P j) × ((q ≡ right P j) × (a ≡ letter P j)))
+
 -- a kind that is none is read as an event: of a term's nodes none is such
 unfoldable pub node_of : List ℕ → ℕ → Node
 node_of P j =
@@ -36,17 +40,17 @@ node_of P j =
     (cond (eqb (kind P j) 7) (Treat (letter P j) (right P j))
     (cond (eqb (kind P j) 8) (Either (left P j) (right P j)) (cond (eqb (kind P j) 9) (Both (left P j) (right P j)) (Event (letter P j))))))))))
 
-abbrev pub Cols : List ℕ → ℕ → Node → Type 0
-Cols P j (Module a) = (kind P j ≡ 0) × (letter P j ≡ a)
-Cols P j One = kind P j ≡ 1
-Cols P j (Sequence x y) = (kind P j ≡ 2) × (left P j ≡ x) × (right P j ≡ y)
-Cols P j (Par x y) = (kind P j ≡ 3) × (left P j ≡ x) × (right P j ≡ y)
-Cols P j (Star x) = (kind P j ≡ 4) × (left P j ≡ x)
-Cols P j (Act x i) = (kind P j ≡ 5) × (left P j ≡ x) × (right P j ≡ i)
-Cols P j (Event e) = (5 < kind P j) × (letter P j ≡ e)
-Cols P j (Treat e t) = (kind P j ≡ 7) × (letter P j ≡ e) × (right P j ≡ t)
-Cols P j (Either i k) = (kind P j ≡ 8) × (left P j ≡ i) × (right P j ≡ k)
-Cols P j (Both i k) = (kind P j ≡ 9) × (left P j ≡ i) × (right P j ≡ k)
+abbrev pub Says : List ℕ → ℕ → Node → Type 0
+Says P j (Module a) = (kind P j ≡ 0) × (letter P j ≡ a)
+Says P j One = kind P j ≡ 1
+Says P j (Sequence x y) = (kind P j ≡ 2) × (left P j ≡ x) × (right P j ≡ y)
+Says P j (Par x y) = (kind P j ≡ 3) × (left P j ≡ x) × (right P j ≡ y)
+Says P j (Star x) = (kind P j ≡ 4) × (left P j ≡ x)
+Says P j (Act x i) = (kind P j ≡ 5) × (left P j ≡ x) × (right P j ≡ i)
+Says P j (Event e) = (5 < kind P j) × (letter P j ≡ e)
+Says P j (Treat e t) = (kind P j ≡ 7) × (letter P j ≡ e) × (right P j ≡ t)
+Says P j (Either i k) = (kind P j ≡ 8) × (left P j ≡ i) × (right P j ≡ k)
+Says P j (Both i k) = (kind P j ≡ 9) × (left P j ≡ i) × (right P j ≡ k)
 
 abbrev pub Put : List ℕ → List ℕ → ℕ → ℕ → ℕ → Type 0
 Put D D' e r u = (r + 1 ≡ e) × (drop r D' ≡ u ∷ drop e D)

@@ -8,7 +8,7 @@ ghost use Rattle.paper.specs.Running.{heads};
 ghost use Rattle.laws.specs.Nodes.{Nodes, letter, count, tree, intr};
 ghost use Rattle.words.specs.Unit.{unit_mark, number_of, HasNode, HasEvent};
 ghost use Rattle.words.specs.Word.{Right, mark, arity, terms, any_runs, any_armed, arms};
-ghost use Rattle.words.specs.Pieces.{node_of, Cols, Put, Faced, Asks, Drawn, Src, Past, Agree};
+ghost use Rattle.words.specs.Pieces.{node_of, Cols, Says, Put, Faced, Asks, Drawn, Src, Past, Agree};
 
 use program::Node;
 
@@ -74,15 +74,37 @@ impl Unit {
     }
 }
 
-// Node j.
+// A node's four columns.
+#[derive(Clone, Copy)]
+pub struct Columns {
+    pub kind: usize,
+    pub left: usize,
+    pub right: usize,
+    pub letter: usize,
+}
+
+// The columns of node j, those too that its kind does not use.
+pub fn node(p: &[u8], j: usize) -> Columns
+    requires { (length p.now ≡ 768) × (j < 192) }
+    ensures { Cols p.now j result.kind result.left result.right result.letter }
+{
+    Columns {
+        kind: usize::from(p[j]),
+        left: usize::from(p[j + 192]),
+        right: usize::from(p[j + 384]),
+        letter: usize::from(letter(p, j)),
+    }
+}
+
+// Node j, of its columns those that its kind uses.
 #[tactic(auto, unfolding(crate::specs::Pieces::node_of))]
-pub fn node(p: &[u8], j: usize) -> Node
+pub fn node_at(p: &[u8], j: usize) -> Node
     requires { (length p.now ≡ 768) × (j < 192) }
     ensures row { result ≡ node_of p.now j }
-    ensures columns { Cols p.now j result }
+    ensures columns { Says p.now j result }
 {
     let (left, right) = (p[j + 192], p[j + 384]);
-    match p[j] {
+    match node(p, j).kind {
         0 => Node::Module(letter(p, j)),
         1 => Node::One,
         2 => Node::Sequence(left, right),
@@ -137,7 +159,7 @@ pub fn expand(p: &[u8], j: usize, dst: &mut [usize], e: usize) -> usize
     requires { Asks p.now j e (length dst.old) }
     ensures { Drawn p.now dst.old dst.new e result (tree p.now j) }
 {
-    match node(p, j) {
+    match node_at(p, j) {
         Node::Module(letter) => put(dst, e, Unit::Module(usize::from(letter))),
         Node::Sequence(first, then) => {
             let a = expand(p, usize::from(first), dst, e);
@@ -197,7 +219,7 @@ pub fn headed(p: &[u8], i: usize, x: usize) -> bool
     requires { Nodes p.now × (i < count p.now) }
     ensures { result ≡ heads x (intr p.now i) }
 {
-    match node(p, i) {
+    match node_at(p, i) {
         Node::Either(first, second) | Node::Both(first, second) => {
             headed(p, usize::from(first), x) || headed(p, usize::from(second), x)
         }

@@ -10,4 +10,4 @@ loop-i-preserved c =
     below_more _ _
     (λ j h. let d : j ≢ x.i = omega arith in rw get_or-set_other (x.invariant j h))
     (let l : x.i < length x.sizes = omega (arith, c.requires.0.nodes.few, c.requires.1) in
-    rw get_or-set_same (c.node_parts.ensures ∙ counted a.nodes.now c.requires.0.nodes x.i (omega arith) x.sizes x.invariant c.node.result c.node.ensures.row c.node.ensures.columns))
+    rw get_or-set_same (c.node_parts.ensures ∙ counted a.nodes.now c.requires.0.nodes x.i (omega arith) x.sizes x.invariant c.node_at.result c.node_at.ensures.row c.node_at.ensures.columns))

@@ -1,12 +1,15 @@
 -- `react::running_letters` meets its contract: the argument is in `Invariants`.
+use mathlib.Core.Bool.{false}
+use mathlib.Core.Path.{refl}
 use borrow.Author.Rules.{rules}
+use lib.ListN.{replicate, get_or-replicate}
 use Rattle.std.proofs.lemmas.List.{take_rest}
 use Rattle.react.proofs.Marking.{seen_none, seen-letter, seen_other, seen_more, seen_all}
 use Rattle.react.proofs.running_letters.Goals as goal
 use Rattle.react.proofs.running_letters.Goals.{in-Module, in_default}
 
 pub loop-unit-init : goal.loop-unit-init
-loop-unit-init c = rw take_rest (seen_none c.args.p.now _ c.requires.right)
+loop-unit-init c = rw take_rest (seen_none c.args.p.now _ (replicate 26 false) c.requires.right refl (λ m h. get_or-replicate 26 m false false h))
 
 pub bounds-flags-m : goal.bounds-flags-m
 bounds-flags-m c = seen-letter c.loop-unit.invariant (search rules) c.in-Module.ensures.says

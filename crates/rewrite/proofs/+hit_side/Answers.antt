@@ -60,7 +60,7 @@ hit-returns-in-Both t c =
 
 pub hit-returns-in_default : goal.hit-returns-in_default
 hit-returns-in_default t c =
-    hit-event c.requires _ (letter_of c.args.letter) c.node.result c.node.ensures.row c.in_default.not-Treat c.in_default.not-Either c.in_default.not-Both
+    hit-event c.requires _ (letter_of c.args.letter) c.node_at.result c.node_at.ensures.row c.in_default.not-Treat c.in_default.not-Either c.in_default.not-Both
 
 pub side-returns-then-strikes : goal.side-returns-then-strikes
 side-returns-then-strikes t c =

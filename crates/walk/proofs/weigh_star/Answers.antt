@@ -15,7 +15,7 @@ returns-then-count-j c = λ ms f. omega (arith, f.fine.1.0, c.if-count-j.true, c
 
 pub returns-in_default : goal.returns-in_default
 unfolding Fine node_of
-returns-in_default c = λ ms f. c.in_default.not-Star (left c.args.p.now c.args.j) (c.node.ensures.row ∙ rw f.fine.1.1.0)
+returns-in_default c = λ ms f. c.in_default.not-Star (left c.args.p.now c.args.j) (c.node_at.ensures.row ∙ rw f.fine.1.1.0)
 
 pub is_node-requires : goal.is_node-requires
 is_node-requires c =

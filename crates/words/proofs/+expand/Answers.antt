@@ -78,4 +78,4 @@ returns-in-Act t c =
 
 pub returns-in_default : goal.returns-in_default
 returns-in_default t c =
-    draw-one c.node.result c.requires c.node.ensures.row c.in_default.not-Module c.in_default.not-Sequence c.in_default.not-Par c.in_default.not-Star c.in_default.not-Act c.put-in_default.ensures
+    draw-one c.node_at.result c.requires c.node_at.ensures.row c.in_default.not-Module c.in_default.not-Sequence c.in_default.not-Par c.in_default.not-Star c.in_default.not-Act c.put-in_default.ensures
