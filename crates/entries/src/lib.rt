@@ -24,17 +24,23 @@ fn next_of(entry: usize, down: usize, round: usize) -> usize
 }
 
 // Entries one after the other: the next state of each is a state.
-#[tactic(auto, using(crate::proofs::Runs::run_none, crate::proofs::Runs::run_more, crate::proofs::Runs::run_fails, crate::proofs::Entries::entry_small))]
+#[inline(always)]
+#[tactic(auto, using(crate::proofs::Runs::run_none, crate::proofs::Entries::entry_small))]
 fn run_right(table: &[u8], counts: Counts, from: usize, count: usize, round: usize) -> bool
     requires { Counted table.now counts × ((count ≤ 8) × ((round ≤ 67108864) × (from + count * (10 + 2 * counts.modules) ≤ 8 * length table.now))) }
     ensures { result ≡ run_right table.now from count (2 * counts.modules) counts.states round }
 {
     let down = 2 * counts.modules;
-    for k in 0..count {
-        let entry = fields::get(table, from + k * (10 + down), 10 + down);
+    let mut bit = from;
+    let mut k = 0;
+    // the place is carried along: with a range gone over, the check of a large table took over 1.2 times plain C's time
+    while k < count {
+        let entry = fields::get(table, bit, 10 + down);
         if counts.states <= next_of(entry, down, round) {
             return false;
         }
+        bit += 10 + down;
+        k += 1;
     }
     true
 }
