@@ -1,7 +1,9 @@
 -- `editions::answer` meets its contract: what a compile answered is printed, and no more of its table than the output holds. Assumes nothing.
-use Rattle.std.proofs.Common.{ap, subst, sym, ◌∙◌, arith}
+use Rattle.std.proofs.Common.{◌≡◌, ap, subst, sym, ◌∙◌, arith}
 use Rattle.paper.specs.Programs.{answer_text}
+use Rattle.printing.specs.Lines.{answer}
 use Rattle.printing.proofs.Shown.{answer-text}
+use Rattle.refusals.specs.Refusals.{edition_of}
 use Rattle.compiler.specs.Compiling.{outcome}
 use Rattle.editions.specs.Texts.{text_of}
 use Rattle.editions.proofs.Files.{Holds, compiled-holds}
@@ -15,4 +17,7 @@ print-requires g c =
 pub returns : goal.returns
 unfolding text_of
 returns g c =
-    rw (sym (answer-text (outcome c.compile-made.result c.compile-made.new.output c.compile-made.new.work) ∙ ap answer_text c.compile-made.ensures)) c.print.ensures
+    let made = outcome c.compile-made.result c.compile-made.new.output c.compile-made.new.work in
+    let e : answer_text (answer made.number made.place made.states made.size made.output) ≡ text_of (edition_of c.args.edition) c.args.file.now =
+    answer-text made ∙ ap answer_text c.compile-made.ensures in
+    rw (sym e) c.print.ensures
